@@ -1,0 +1,14 @@
+//! MPEG-2 transport packets: what a usable packet carries, and the packet that carries a payload.
+//!
+//! ISO/IEC 13818-1, 2.4.3.2 and 2.4.3.3.
+#![tactic(auto)]
+
+mod packet;
+mod pid;
+#[cfg(test)]
+mod tests;
+mod writing;
+
+pub use packet::{PACKET_LEN, Packet, View, read};
+pub use pid::Pid;
+pub use writing::write;
