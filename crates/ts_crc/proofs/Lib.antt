@@ -1,0 +1,4 @@
+mod Eight
+mod Entries
+mod Linear
+pub mod CrcLaws
