@@ -1,0 +1,5 @@
+pub mod Format
+pub mod Laws
+pub mod Number
+pub mod Items
+pub mod Read
