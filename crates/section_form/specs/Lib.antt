@@ -1,0 +1,4 @@
+pub mod Long
+pub mod Section
+pub mod Shown
+pub mod Written
