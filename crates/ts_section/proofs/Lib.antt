@@ -1,0 +1,10 @@
+pub mod Pieces
+pub mod PayloadStarts
+pub mod OpenTexts
+pub mod Sets
+pub mod PidPlaces
+pub mod Spans
+pub mod Hearers
+pub mod CutPackets
+pub mod CutHeard
+pub mod HearSteps

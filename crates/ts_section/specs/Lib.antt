@@ -1,0 +1,7 @@
+pub mod Sections
+pub mod Events
+pub mod Cut
+pub mod Steps
+pub mod Streams
+pub mod Places
+pub mod Hearing

@@ -1,0 +1,17 @@
+//! Sections out of transport packets and back: ISO/IEC 13818-1, 2.4.3 and 2.4.4.
+#![tactic(auto)]
+
+mod cutting;
+mod hearer;
+mod kept;
+mod section_out;
+mod starts;
+mod step;
+mod stream;
+#[cfg(test)]
+mod tests;
+
+pub use cutting::cut;
+pub use hearer::{Hearer, PidSet};
+pub use section_form::{LongForm, MakeFault, long, long_section, section_ends};
+pub use section_out::SectionOut;
