@@ -1,0 +1,9 @@
+use Rattle.std.proofs.Common.{◌<◌, ◌^◌, arith}
+use Rattle.std.proofs.lemmas.Fmt.{parse-decimal}
+use Rattle.ssu_status.proofs.number.parsed.Goals as goal
+
+pub returns : goal.returns
+returns c = λ n small written.
+    let wide : n < 2 ^ 64 = omega (arith, small) in
+    let read = parse-decimal 32 n c.args.word.now c.parse.result small wide written c.parse.ensures.value.0 in
+    rw read at c.ok.ensures.value

@@ -1,0 +1,11 @@
+//! What the program is told, and what it answers: the words of the command line and the status.
+#![tactic(auto)]
+
+mod command;
+mod number;
+mod status;
+#[cfg(test)]
+mod tests;
+
+pub use command::{Command, FileName, made_file};
+pub use status::Status;
