@@ -1,0 +1,3 @@
+pub mod Behind
+pub mod Next
+pub mod Packets
