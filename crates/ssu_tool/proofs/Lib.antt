@@ -1,0 +1,2 @@
+pub mod HearLemmas
+pub mod StatusLemmas
