@@ -1,0 +1,83 @@
+//! `ssu FOLDER COMMAND ARGUMENTS`: DVB System Software Update over the files of a folder.
+#![tactic(auto)]
+
+use ssu_io::{RealSink, RealSource, Sink, StdSink};
+use ssu_status::{Status, made_file};
+use ssu_tool::run;
+use std::alloc::{AllocError, Global};
+use std::process::ExitCode;
+use std::rt::{Env, Files};
+use std::{env, io};
+
+const HELP: &str = "usage: ssu FOLDER COMMAND ARGUMENTS
+
+  hear PID   writes the right whole sections of the PID in air.ts to standard output
+
+ssu --help and ssu --version print this text and the version.
+";
+
+const VERSION: &str = "ssu 0.1.0\n";
+
+fn main(rt: HostRuntime) -> ExitCode {
+    let status = match words_of(&rt) {
+        Ok(words) => answer(&rt, &words),
+        Err(status) => status,
+    };
+    let text = status.text();
+    if !text.is_empty() {
+        // Where standard error cannot be written, the code alone tells.
+        let _ = eprintln!(rt; "ssu: {text}");
+    }
+    ExitCode::from(status.code())
+}
+
+/// The words behind the program's name. A word that is not UTF-8 is a wrong word.
+fn words_of(rt: &(impl Env + AllocGlobal)) -> Result<Vec<String>, Status> {
+    let args = env::args(rt).map_err(status_of)?;
+    args.skip(1)
+        .collect(rt.alloc())
+        .map_err(|_| Status::NoMemory)
+}
+
+fn status_of(error: io::Error) -> Status {
+    match error.kind() {
+        io::ErrorKind::OutOfMemory => Status::NoMemory,
+        _ => Status::Usage,
+    }
+}
+
+/// Answers the words: `--help` and `--version` here, all others by `run` over the files of the folder.
+fn answer(rt: &(impl Files + Print + AllocGlobal), words: &[String]) -> Status {
+    match words {
+        [word] if word.as_str() == "--help" => printed(rt, HELP),
+        [word] if word.as_str() == "--version" => printed(rt, VERSION),
+        _ => match in_folder(rt, words) {
+            Ok(status) => status,
+            Err(_) => Status::NoMemory,
+        },
+    }
+}
+
+fn printed(rt: &impl Print, text: &str) -> Status {
+    match StdSink::new(rt).put(text.as_bytes()) {
+        Ok(()) => Status::Done,
+        Err(_) => Status::WriteFault,
+    }
+}
+
+/// Runs the command on the files of the folder, which is the first word.
+fn in_folder(
+    rt: &(impl Files + Print + AllocGlobal),
+    words: &[String],
+) -> Result<Status, AllocError> {
+    let alloc = rt.alloc();
+    let folder = words.first().map_or("", |word| word.as_str());
+    let mut air = RealSource::new(rt, path(alloc, folder, "air.ts")?);
+    let mut made = RealSink::new(rt, path(alloc, folder, made_file(words).as_str())?);
+    let mut out = StdSink::new(rt);
+    Ok(run(alloc, words, &mut air, &mut made, &mut out))
+}
+
+fn path(alloc: Global, folder: &str, name: &str) -> Result<String, AllocError> {
+    format!(in alloc; "{folder}/{name}")
+}
