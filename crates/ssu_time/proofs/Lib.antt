@@ -1,0 +1,3 @@
+pub mod DayLemmas
+pub mod TextLemmas
+pub mod UtcLemmas

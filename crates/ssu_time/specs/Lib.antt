@@ -1,0 +1,5 @@
+pub mod Calendar
+pub mod CivilText
+pub mod Opening
+pub mod Parts
+pub mod UtcTime
