@@ -1,0 +1,5 @@
+pub mod Compat
+pub mod Exact
+pub mod Match
+pub mod View
+pub mod Written
