@@ -1,0 +1,6 @@
+pub mod Descriptors
+pub mod Exact
+pub mod Linkage
+pub mod SsuInfo
+pub mod Views
+pub mod Written
