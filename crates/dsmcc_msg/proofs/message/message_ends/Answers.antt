@@ -1,0 +1,6 @@
+use Rattle.wire.specs.Laws.{front_ends}
+use Rattle.dsmcc_msg.specs.Exact.{message_exact}
+use Rattle.dsmcc_msg.proofs.message.message_ends.Goals as goal
+
+pub returns : goal.returns
+returns c = front_ends message_exact

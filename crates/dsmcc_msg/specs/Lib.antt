@@ -1,0 +1,8 @@
+pub mod Inside
+pub mod Message
+pub mod Control
+pub mod Block
+pub mod Exact
+pub mod View
+pub mod Written
+pub mod Row
