@@ -1,0 +1,31 @@
+//! A file's text as a TOML document.
+ghost use Rattle.std.specs.Prelude.{◌≡◌, Some, None, IfOk, IsErrOf};
+ghost use Rattle.toml.specs.View.{table_view};
+ghost use Rattle.toml_fields.specs.Document.{document_of};
+
+use std::alloc::Global;
+use toml::Table;
+
+/// Why a text gave no table.
+#[derive(Clone, Copy, Debug, PartialEq, Eq)]
+pub enum DocumentFault {
+    /// The text is no UTF-8, or no TOML document.
+    Text,
+    /// Memory ran out.
+    Memory,
+}
+
+/// The table of a text in UTF-8 that is a TOML document.
+pub fn read_document(alloc: Global, text: &[u8]) -> Result<Table, DocumentFault>
+    ensures table { IfOk result (λ t. document_of text.now ≡ Some (table_view t)) }
+    ensures refused { IsErrOf result DocumentFault.Text → document_of text.now ≡ None }
+{
+    let Ok(text) = std::str::from_utf8(text) else {
+        return Err(DocumentFault::Text);
+    };
+    match toml::table_from_str(alloc, text) {
+        Ok(table) => Ok(table),
+        Err(fault) if fault.is_memory() => Err(DocumentFault::Memory),
+        Err(_) => Err(DocumentFault::Text),
+    }
+}
