@@ -1,0 +1,107 @@
+-- The descriptors of a notification table: ETSI TS 102 006 9.6.
+use Rattle.std.specs.Prelude.{ℕ, ◌+◌, ◌*◌, ◌/◌, ◌%◌, ◌&&◌, ◌==◌, if◌then◌else◌, nat_le, bit_and, Bool, true, false, List, Option, Some, None, slice_index, unwrap_or}
+use Rattle.std.specs.List.{list_any}
+use Rattle.ssu_time.specs.UtcTime.{decimal}
+use Rattle.ssu_time.specs.declared.windows.Window.{Window}
+use Rattle.wire.specs.Format.{Front, Whole, raw, reads, such, fixed, ◌&◌, ◌then◌, rest, only, to_end, whole_reads}
+use Rattle.wire.specs.Number.{number, number_of}
+
+-- ---- scheduling, tag 0x01
+
+-- two decimal digits, whose number is at most the greatest
+abbrev pub is_decimal : ℕ → ℕ → Bool
+is_decimal byte most = nat_le (byte / 16) 9 && nat_le (byte % 16) 9 && nat_le (decimal byte) most
+
+-- a time: Modified Julian Date 16; hour, minute and second, two decimal digits each
+abbrev pub is_time : List ℕ → Bool
+is_time bytes =
+    is_decimal (slice_index bytes 2) 23 && is_decimal (slice_index bytes 3) 59 && is_decimal (slice_index bytes 4) 59
+
+-- its second, counted from the beginning of day 0
+abbrev pub second_of : List ℕ → ℕ
+second_of bytes =
+    (slice_index bytes 0 * 256 + slice_index bytes 1) * 86400
+    + (decimal (slice_index bytes 2) * 3600 + decimal (slice_index bytes 3) * 60 + decimal (slice_index bytes 4))
+
+-- UTC time 40
+unfoldable pub utc : Front ℕ
+utc = reads second_of (such is_time (raw 5))
+
+-- 0 is a second, 1 a minute, 2 an hour and 3 a day
+abbrev pub unit_seconds : ℕ → ℕ
+unit_seconds unit = if unit == 0 then 1 else (if unit == 1 then 60 else (if unit == 2 then 3600 else 86400))
+
+abbrev pub no_turns : List ℕ → ℕ × ℕ
+no_turns _ = (0, 0)
+
+abbrev pub turns_fields : ℕ → (ℕ × (ℕ × ℕ)) × List ℕ → ℕ × ℕ
+turns_fields flags x = (x.0.0 * unit_seconds (flags / 16 % 4), x.0.1.0 * unit_seconds (flags / 4 % 4))
+
+-- With the periodicity flag period 8, duration 8, estimated cycle time 8; then private bytes.
+abbrev pub turns_if : Bool → ℕ → Whole (ℕ × ℕ)
+turns_if true flags = whole_reads (turns_fields flags) (
+    (number 1 & number 1 & number 1) then λ _.
+    rest)
+turns_if false flags = whole_reads no_turns rest
+
+abbrev pub window_fields : ℕ × (ℕ × (ℕ × (ℕ × ℕ))) → Window
+window_fields x = record { start = x.0; end = x.1.0; period = x.1.1.1.0; duration = x.1.1.1.1 }
+
+-- start 40; end 40; final_availability 1, periodicity_flag 1, period_unit 2, duration_unit 2,
+-- cycle_time_unit 2; what the flag leads to
+unfoldable pub scheduling : Whole Window
+scheduling = whole_reads window_fields (
+    utc then λ _.
+    utc then λ _.
+    number 1 then λ flags.
+    turns_if (flags / 64 % 2 == 1) flags)
+
+-- A window that is never open stands for a body that is not of the form.
+abbrev pub never : Window
+never = record { start = 0; end = 0; period = 0; duration = 0 }
+
+unfoldable pub window_of : List ℕ → Window
+window_of bytes = unwrap_or (scheduling.of bytes) never
+
+-- ---- update, tag 0x02: update_flag 2, update_method 4, update_priority 2; private bytes
+
+abbrev pub flag_of : ℕ × List ℕ → ℕ
+flag_of x = x.0 / 64
+
+unfoldable pub update_flag : Whole ℕ
+update_flag = whole_reads flag_of (
+    number 1 then λ _.
+    rest)
+
+-- ---- ssu_location, tag 0x03
+
+abbrev pub tag_in : Unit {0} × ((Unit {0} × ℕ) × List ℕ) → ℕ
+tag_in x = x.1.0.1
+
+-- data_broadcast_id 16, which is 0x000A; association_tag 16, whose high byte is 0 and whose low byte
+-- is the tag; private bytes
+unfoldable pub location : Whole ℕ
+location = whole_reads tag_in (
+    fixed (number 2) 0x000A then λ _.
+    (fixed (number 1) 0 & number 1) then λ _.
+    rest)
+
+-- ---- ssu_subgroup_association, tag 0x0B: 40 bits, and nothing else
+
+unfoldable pub subgroup : Whole ℕ
+subgroup = only (number 5)
+
+-- ---- target MAC address, tag 0x07: mask 48, and matches of 48
+
+unfoldable pub mac_targets : Whole (ℕ × List ℕ)
+mac_targets =
+    number 6 then λ _.
+    to_end (number 6)
+
+-- one of the matches equals the address in all bits of the mask
+abbrev pub has_mac : ℕ → Option (ℕ × List ℕ) → Bool
+has_mac mac None = false
+has_mac mac (Some x) = list_any (λ match. bit_and match x.0 == bit_and mac x.0) x.1
+
+unfoldable pub names_mac : List ℕ → List ℕ → Bool
+names_mac mac bytes = has_mac (number_of mac) (mac_targets.of bytes)
