@@ -1,0 +1,4 @@
+pub mod CivilLemmas
+pub mod FileLemmas
+pub mod GroupLemmas
+pub mod MentionLemmas

@@ -1,0 +1,5 @@
+pub mod Times
+pub mod Plans
+pub mod PlanText
+pub mod Files
+pub mod Schedules
