@@ -1,0 +1,165 @@
+// A file as a flash.
+ghost use Rattle.std.specs.Prelude.{◌≡◌, ◌≢◌, ◌*◌, ◌%◌, ◌^◌, ◌<◌, ◌≤◌, [], IfOk};
+
+use crate::Flash;
+use ssu_io::Failed;
+use std::fs::{OpenFile, OpenOptions};
+use std::io;
+use std::io::{ErrorKind, Read, Seek, SeekFrom, Write};
+use std::marker::PhantomData;
+use std::rt::Files;
+
+/// The length of a block in bytes.
+const BLOCK: u32 = 4096;
+
+/// A block that is erased.
+const BLANK: [u8; 4096] = [255; 4096];
+
+/// How many blocks stand for a file that is there and cannot be opened.
+const BROKEN_BLOCKS: u32 = 4;
+
+/// A file as a flash with blocks of 4,096 bytes. Each erase and program waits until the file is synced.
+/// It tells neither what it holds nor its moments. Each error of the file is a fault.
+#[derive(Drop)]
+pub struct FileFlash<'a, R: Files> {
+    file: Option<R::File>,
+    blocks: u32,
+    faults: u64,
+    runtime: PhantomData<&'a R>,
+    ghost addressable: { blocks * 4096 < 2 ^ 32 },
+}
+
+impl<'a, R: Files> FileFlash<'a, R> {
+    /// Opens the file. One that is absent, has no whole number of blocks or more than 4,294,967,295 bytes
+    /// is a flash of 0 blocks. One that is there and cannot be opened is a flash of 4 blocks of which
+    /// every call fails.
+    pub fn new(rt: &'a R, path: String) -> FileFlash<'a, R>
+        ensures { result.faults ≡ 0 }
+    {
+        match open(rt, &path) {
+            Ok((file, blocks)) => FileFlash::of(Some(file), blocks),
+            Err(error) if error.kind() == ErrorKind::NotFound => FileFlash::of(None, 0),
+            Err(_) => FileFlash::of(None, BROKEN_BLOCKS),
+        }
+    }
+
+    fn of(file: Option<R::File>, blocks: u32) -> FileFlash<'a, R>
+        requires { blocks * 4096 < 2 ^ 32 }
+        ensures { result.faults ≡ 0 }
+    {
+        FileFlash {
+            file,
+            blocks,
+            faults: 0,
+            runtime: PhantomData,
+        }
+    }
+}
+
+impl<R: Files> Flash for FileFlash<'_, R> {
+    ghost tells = { ⊥ };
+
+    ghost tells_moments = { ⊥ };
+
+    ghost contents = { λ _. [] };
+
+    ghost block_count = { λ flash. flash.blocks };
+
+    ghost block_len = { λ _. 4096 };
+
+    ghost moment = { λ _. 0 };
+
+    ghost left_since = { λ _ _ _. ⊥ };
+
+    ghost faults = { λ flash. flash.faults };
+
+    ghost counts_now = { λ none _ _ _. absurd none };
+
+    ghost only_now = { λ _ _ none. absurd none };
+
+    fn blocks(&self) -> u32 {
+        self.blocks
+    }
+
+    fn block_size(&self) -> u32 {
+        BLOCK
+    }
+
+    fn read(&mut self, at: u32, buf: &mut [u8]) -> Result<(), Failed> {
+        match read_at(&mut self.file, at, buf) {
+            Ok(()) => Ok(()),
+            Err(_) => {
+                self.faults = self.faults.saturating_add(1);
+                Err(Failed)
+            }
+        }
+    }
+
+    fn erase(&mut self, block: u32) -> Result<(), Failed> {
+        match write_at(&mut self.file, block * BLOCK, &BLANK) {
+            Ok(()) => Ok(()),
+            Err(_) => {
+                self.faults = self.faults.saturating_add(1);
+                Err(Failed)
+            }
+        }
+    }
+
+    fn program(&mut self, at: u32, bytes: &[u8]) -> Result<(), Failed> {
+        match write_at(&mut self.file, at, bytes) {
+            Ok(()) => Ok(()),
+            Err(_) => {
+                self.faults = self.faults.saturating_add(1);
+                Err(Failed)
+            }
+        }
+    }
+}
+
+// The file, open for reading and writing, and its number of blocks.
+fn open<R: Files>(rt: &R, path: &String) -> io::Result<(R::File, u32)>
+    ensures { IfOk result (λ opened. opened.1 * 4096 < 2 ^ 32) }
+{
+    let file = OpenOptions::new().read(true).write(true).open(rt, path)?;
+    let len = file.metadata()?.len();
+    Ok((file, whole_blocks(len)))
+}
+
+// The number of blocks of a file of this length, 0 where it has no whole number of them or is too long.
+fn whole_blocks(len: u64) -> u32
+    ensures fits { result * 4096 < 2 ^ 32 }
+    ensures whole { len % 4096 ≡ 0 → len < 2 ^ 32 → result * 4096 ≡ len }
+    ensures part { len % 4096 ≢ 0 → result ≡ 0 }
+    ensures long { 2 ^ 32 ≤ len → result ≡ 0 }
+{
+    if len % u64::from(BLOCK) == 0 && len <= u64::from(u32::MAX) {
+        (len / u64::from(BLOCK)) as u32
+    } else {
+        0
+    }
+}
+
+fn read_at<F: Read + Seek>(file: &mut Option<F>, at: u32, buf: &mut [u8]) -> io::Result<()> {
+    match file {
+        None => Err(io::Error::from(ErrorKind::NotFound)),
+        Some(file) => {
+            file.seek(SeekFrom::Start(u64::from(at)))?;
+            file.read_exact(buf)
+        }
+    }
+}
+
+fn write_at<F: Write + Seek + OpenFile>(
+    file: &mut Option<F>,
+    at: u32,
+    bytes: &[u8],
+) -> io::Result<()> {
+    match file {
+        None => Err(io::Error::from(ErrorKind::NotFound)),
+        Some(file) => {
+            file.seek(SeekFrom::Start(u64::from(at)))?;
+            file.write_all(bytes)?;
+            file.sync_all()
+        }
+    }
+}
