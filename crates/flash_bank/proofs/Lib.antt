@@ -1,0 +1,11 @@
+pub mod BankLemmas
+pub mod BootLemmas
+pub mod FindLemmas
+pub mod FormatLemmas
+pub mod PairsLemmas
+pub mod PartLemmas
+pub mod Places
+pub mod ReadsLemmas
+pub mod RunsLemmas
+pub mod SoundLemmas
+pub mod SpareLemmas

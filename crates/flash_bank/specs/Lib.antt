@@ -1,0 +1,11 @@
+pub mod Bank
+pub mod Errors
+pub mod Find
+pub mod Format
+pub mod Layout
+pub mod Pairs
+pub mod Record
+pub mod Runs
+pub mod Shape
+pub mod Sound
+pub mod Spare

@@ -1,0 +1,155 @@
+// The image that boot takes.
+ghost use Rattle.std.specs.Prelude.{◌≡◌, ◌⊎◌, ◌↔◌, ◌+◌, ◌*◌, ◌^◌, ◌<◌, ◌≤◌, List, ℕ, length, IfOk, IsErrOf, OnErr, OnOk};
+ghost use Rattle.flash_bank.specs.Layout.{IsInLimits, bank_len, bank_place};
+ghost use Rattle.flash_bank.specs.Pairs.{part};
+ghost use Rattle.flash_bank.specs.Runs.{OnlyReads};
+ghost use Rattle.flash_bank.specs.Sound.{Boot, BootOf, IsSound};
+ghost use Rattle.ssu_io.specs.Bytes.{Gains, GainsPrefix};
+ghost use Rattle.ssu_io.specs.Faults.{Rose};
+
+use crate::fault::BootFault;
+use crate::find::find_current;
+use crate::layout::shape_of;
+use crate::record::Record;
+use flash_dev::Flash;
+use ssu_io::Sink;
+
+/// The length of a piece of the image.
+const PIECE: usize = 256;
+
+/// Puts the image of the current record into the sink. It does not change the flash.
+pub fn boot<F: Flash, W: Sink>(flash: &mut F, sink: &mut W) -> Result<Record, BootFault>
+    ensures whole { F.tells → IfOk result (λ head. (image : List ℕ)
+        × BootOf (record { blocks = F.block_count flash.old; block_len = F.block_len flash.old })
+        (F.contents flash.old) (record { head = head; image = image })
+        × Gains (W.contents sink.old) (W.contents sink.new) image) }
+
+    // After a fault nothing was put, or a prefix of the image.
+    ensures prefix { F.tells → OnErr result ((W.contents sink.new ≡ W.contents sink.old) ⊎ ((taken : Boot)
+        × BootOf (record { blocks = F.block_count flash.old; block_len = F.block_len flash.old }) (F.contents flash.old) taken
+        × GainsPrefix (W.contents sink.old) (W.contents sink.new) taken.image)) }
+
+    // The number or the length of the blocks is out of the limits.
+    ensures geometry { IsErrOf result BootFault.Geometry
+        ↔ (IsInLimits (record { blocks = F.block_count flash.old; block_len = F.block_len flash.old }) → ⊥) }
+    ensures fault { IsErrOf result BootFault.Flash → Rose (F.faults flash.old) (F.faults flash.new) }
+
+    // The contents are not sound.
+    ensures foreign { F.tells → IsErrOf result BootFault.Foreign
+        → IsSound (record { blocks = F.block_count flash.old; block_len = F.block_len flash.old }) (F.contents flash.old) → ⊥ }
+    ensures refused { IsErrOf result BootFault.Geometry ⊎ IsErrOf result BootFault.Foreign → W.contents sink.new ≡ W.contents sink.old }
+    ensures sound { F.tells → OnOk result
+        (IsSound (record { blocks = F.block_count flash.old; block_len = F.block_len flash.old }) (F.contents flash.old)) }
+    ensures write { IsErrOf result BootFault.Write → Rose (W.faults sink.old) (W.faults sink.new) }
+    ensures write_sound { F.tells → IsErrOf result BootFault.Write
+        → IsSound (record { blocks = F.block_count flash.old; block_len = F.block_len flash.old }) (F.contents flash.old) }
+
+    ensures reads { OnlyReads F.tells F.contents F.block_count F.block_len F.moment F.left_since flash.old flash.new }
+    ensures faults { F.faults flash.old ≤ F.faults flash.new }
+    ensures sink_faults { W.faults sink.old ≤ W.faults sink.new }
+{
+    let Some(shape) = shape_of(flash) else {
+        return Err(BootFault::Geometry);
+    };
+    match find_current(flash, shape) {
+        Err(_) => Err(BootFault::Flash),
+        Ok(None) => Err(BootFault::Foreign),
+        Ok(Some(current)) => {
+            let place = shape.bank_place(current.head.bank);
+            put_image(flash, sink, place, current.head.length)?;
+            Ok(current.head)
+        }
+    }
+}
+
+// Puts bytes of the flash into the sink, piece by piece.
+fn put_image<F: Flash, W: Sink>(
+    flash: &mut F,
+    sink: &mut W,
+    place: u32,
+    len: u32,
+) -> Result<(), BootFault>
+    requires inside { place + len ≤ F.block_count flash.old * F.block_len flash.old }
+    requires addressable { place + len < 2 ^ 32 }
+    requires whole { F.tells → length (F.contents flash.old) ≡ F.block_count flash.old * F.block_len flash.old }
+    ensures whole { F.tells → OnOk result (Gains (W.contents sink.old) (W.contents sink.new) (part (F.contents flash.old) place len)) }
+    ensures prefix { F.tells → OnErr result (GainsPrefix (W.contents sink.old) (W.contents sink.new) (part (F.contents flash.old) place len)) }
+    ensures fault { IsErrOf result BootFault.Flash → Rose (F.faults flash.old) (F.faults flash.new) }
+    ensures write { IsErrOf result BootFault.Write → Rose (W.faults sink.old) (W.faults sink.new) }
+    ensures no_geometry { IsErrOf result BootFault.Geometry → ⊥ }
+    ensures no_foreign { IsErrOf result BootFault.Foreign → ⊥ }
+    ensures reads { OnlyReads F.tells F.contents F.block_count F.block_len F.moment F.left_since flash.old flash.new }
+    ensures faults { F.faults flash.old ≤ F.faults flash.new }
+    ensures sink_faults { W.faults sink.old ≤ W.faults sink.new }
+{
+    let mut done = 0u32;
+    while done < len {
+        let n = (len - done).min(PIECE as u32);
+        put_some(flash, sink, place + done, n)?;
+        done += n;
+    }
+    Ok(())
+}
+
+// Puts up to 256 bytes.
+fn put_some<F: Flash, W: Sink>(
+    flash: &mut F,
+    sink: &mut W,
+    at: u32,
+    len: u32,
+) -> Result<(), BootFault>
+    requires few { len ≤ 256 }
+    requires inside { at + len ≤ F.block_count flash.old * F.block_len flash.old }
+    requires whole { F.tells → length (F.contents flash.old) ≡ F.block_count flash.old * F.block_len flash.old }
+    ensures whole { F.tells → OnOk result (Gains (W.contents sink.old) (W.contents sink.new) (part (F.contents flash.old) at len)) }
+    ensures prefix { F.tells → OnErr result (GainsPrefix (W.contents sink.old) (W.contents sink.new) (part (F.contents flash.old) at len)) }
+    ensures fault { IsErrOf result BootFault.Flash → Rose (F.faults flash.old) (F.faults flash.new) }
+    ensures write { IsErrOf result BootFault.Write → Rose (W.faults sink.old) (W.faults sink.new) }
+    ensures no_geometry { IsErrOf result BootFault.Geometry → ⊥ }
+    ensures no_foreign { IsErrOf result BootFault.Foreign → ⊥ }
+    ensures reads { OnlyReads F.tells F.contents F.block_count F.block_len F.moment F.left_since flash.old flash.new }
+    ensures faults { F.faults flash.old ≤ F.faults flash.new }
+    ensures sink_faults { W.faults sink.old ≤ W.faults sink.new }
+{
+    let mut buf = [0u8; PIECE];
+    put_piece(flash, sink, at, &mut buf[..len as usize])
+}
+
+// Reads a piece and puts it.
+fn put_piece<F: Flash, W: Sink>(
+    flash: &mut F,
+    sink: &mut W,
+    at: u32,
+    piece: &mut [u8],
+) -> Result<(), BootFault>
+    requires inside { at + length piece.old ≤ F.block_count flash.old * F.block_len flash.old }
+    requires whole { F.tells → length (F.contents flash.old) ≡ F.block_count flash.old * F.block_len flash.old }
+    ensures whole { F.tells → OnOk result (Gains (W.contents sink.old) (W.contents sink.new)
+        (part (F.contents flash.old) at (length piece.old))) }
+    ensures prefix { F.tells → OnErr result (GainsPrefix (W.contents sink.old) (W.contents sink.new)
+        (part (F.contents flash.old) at (length piece.old))) }
+    ensures fault { IsErrOf result BootFault.Flash → Rose (F.faults flash.old) (F.faults flash.new) }
+    ensures write { IsErrOf result BootFault.Write → Rose (W.faults sink.old) (W.faults sink.new) }
+    ensures no_geometry { IsErrOf result BootFault.Geometry → ⊥ }
+    ensures no_foreign { IsErrOf result BootFault.Foreign → ⊥ }
+    ensures reads { OnlyReads F.tells F.contents F.block_count F.block_len F.moment F.left_since flash.old flash.new }
+    ensures faults { F.faults flash.old ≤ F.faults flash.new }
+    ensures sink_faults { W.faults sink.old ≤ W.faults sink.new }
+{
+    match flash.read(at, piece) {
+        Ok(()) => put_bytes(sink, piece),
+        Err(_) => Err(BootFault::Flash),
+    }
+}
+
+fn put_bytes<W: Sink>(sink: &mut W, bytes: &[u8]) -> Result<(), BootFault>
+    ensures whole { OnOk result (Gains (W.contents sink.old) (W.contents sink.new) bytes.now) }
+    ensures prefix { OnErr result (GainsPrefix (W.contents sink.old) (W.contents sink.new) bytes.now) }
+    ensures write { OnErr result (IsErrOf result BootFault.Write × Rose (W.faults sink.old) (W.faults sink.new)) }
+    ensures sink_faults { W.faults sink.old ≤ W.faults sink.new }
+{
+    match sink.put(bytes) {
+        Ok(()) => Ok(()),
+        Err(_) => Err(BootFault::Write),
+    }
+}
