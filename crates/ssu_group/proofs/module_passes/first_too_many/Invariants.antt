@@ -1,0 +1,8 @@
+use Rattle.std.proofs.Common.{◌≡◌}
+use Rattle.wire.specs.Items.{items_of}
+use Rattle.dsmcc_msg.specs.Control.{module_entry}
+use Rattle.ssu_group.specs.Refusal.{first_too_many}
+use Rattle.ssu_group.proofs.module_passes.first_too_many.Given as goal
+
+abbrev pub invariant-loop-module : goal.invariant-loop-module
+invariant-loop-module l = first_too_many l.block_size (items_of module_entry l.module-iterator) ≡ first_too_many l.block_size l.dii.modules

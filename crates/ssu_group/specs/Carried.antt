@@ -1,0 +1,60 @@
+-- What sections carry of a group. Lists of sections have the newest first.
+use Rattle.std.specs.Prelude.{◌≡◌, ℕ, zero, suc, Bool, true, not, ◌==◌, List, [], ◌++◌, take, drop, Option, Some, None, is_some, unwrap_or, if◌then◌else◌}
+use Rattle.std.specs.List.{find}
+use Rattle.std.specs.Option.{option_and_then}
+use Rattle.ts_crc.specs.Crc.{crc_of}
+use Rattle.route_part.specs.Said.{first_said}
+use Rattle.dsmcc_msg.specs.Block.{DdbFields, ddb}
+use Rattle.ssu_group.specs.declared.module_plan.ModulePlan.{ModulePlan}
+use Rattle.ssu_group.specs.declared.places.Place.{Place}
+use Rattle.ssu_group.specs.declared.group_plan.GroupPlan.{GroupPlan}
+use Rattle.ssu_group.specs.Place.{place_of}
+use Rattle.ssu_group.specs.Map.{missing_below}
+
+abbrev pub bytes_at : ℕ → DdbFields → Place → Option (List ℕ)
+bytes_at number d p = if p.number == number then Some d.bytes else None
+
+-- the bytes that a section brings for the place of that number
+unfoldable pub brings : GroupPlan → ℕ → List ℕ → Option (List ℕ)
+brings plan number section =
+    option_and_then (λ d. option_and_then (bytes_at number d) (place_of plan d)) (ddb.of section)
+
+-- The first DDB that fills a place gives its bytes.
+unfoldable pub filling : GroupPlan → List (List ℕ) → ℕ → Option (List ℕ)
+filling plan sections number = first_said (brings plan number) sections
+
+-- how many places no section fills
+abbrev pub missing_places : GroupPlan → List (List ℕ) → ℕ
+missing_places plan sections = missing_below (λ n. is_some (filling plan sections n)) plan.places
+
+-- the texts of the first n numbers, joined
+unfoldable pub joined : (ℕ → List ℕ) → ℕ → List ℕ
+joined text zero = []
+joined text (suc n) = joined text n ++ text n
+
+-- the image that the places join to
+abbrev pub carried_image : GroupPlan → List (List ℕ) → List ℕ
+carried_image plan sections = joined (λ n. unwrap_or (filling plan sections n) []) plan.places
+
+-- the bytes of a module in the image
+abbrev pub module_bytes : List ℕ → ModulePlan → List ℕ
+module_bytes image m = take m.size (drop m.at image)
+
+abbrev pub crc_is : List ℕ → Option ℕ → Bool
+crc_is bytes None = true
+crc_is bytes (Some crc) = crc_of bytes == crc
+
+-- Has the module the CRC that its descriptor gives, if it has one?
+abbrev pub is_right : List ℕ → ModulePlan → Bool
+is_right image m = crc_is (module_bytes image m) m.crc
+
+-- the first module, in the order of the DII, that has not the CRC of its descriptor
+unfoldable pub wrong_module : List ModulePlan → List ℕ → Option ModulePlan
+wrong_module modules image = find (λ m. not (is_right image m)) modules
+
+-- The sections carry the group whole, as this image: each place is filled, the image joins the bytes of the first DDB
+-- that fills each, and each module has the CRC that its descriptor gives.
+pub record CarriesWhole (plan : GroupPlan) (sections : List (List ℕ)) (image : List ℕ) : Type 0 where
+  pub filled : missing_places plan sections ≡ 0
+  pub joins : image ≡ carried_image plan sections
+  pub right : wrong_module plan.modules.items image ≡ None
