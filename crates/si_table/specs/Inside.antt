@@ -1,0 +1,21 @@
+-- A format whose bytes are a part of what another format reads.
+use Rattle.std.proofs.Common.{◌≡◌, List, ℕ, Some, refl, subst}
+use Rattle.wire.specs.Format.{Whole, ◌>>=◌}
+use Rattle.wire.specs.Laws.{IsWhole, bind_some}
+
+-- what w reads, with what v reads of a part of it
+abbrev pub inside : {A B : Type 0} → Whole A → (A → List ℕ) → Whole B → Whole (A × B)
+inside w part v = record {
+  of = λ bs. w.of bs >>= λ a. v.of (part a) >>= λ b. Some (a, b);
+  Spells = λ x p. w.Spells x.0 p × v.Spells x.1 (part x.0);
+}
+
+pub inside_exact : {A B : Type 0} {w : Whole A} (part : A → List ℕ) {v : Whole B} → IsWhole w → IsWhole v → IsWhole (inside w part v)
+inside_exact {A} {B} {w} part {v} h k = record {
+  takes = λ bs z e.
+      let a = bind_some (w.of bs) (λ a. v.of (part a) >>= λ b. Some (a, b)) z e in
+      let b = bind_some (v.of (part a.0)) (λ b. Some (a.0, b)) z a.2 in
+      let is : ◌≡◌ {A = A × B} (a.0, b.0) z = cc in
+      subst (λ (u : A × B). (inside w part v).Spells u bs) is (h.takes bs a.0 a.1, k.takes (part a.0) b.0 b.1);
+  again = λ x bs s. rw (h.again x.0 bs s.0, k.again x.1 (part x.0) s.1) refl;
+}

@@ -1,0 +1,7 @@
+pub mod Inside
+pub mod Tables
+pub mod Times
+pub mod Exact
+pub mod Rows
+pub mod Views
+pub mod Written
