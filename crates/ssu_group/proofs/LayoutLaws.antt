@@ -1,9 +1,10 @@
 -- What is laid out is a plan, where no module stands in the way.
-use Rattle.std.proofs.Common.{◌≡◌, ℕ, zero, suc, ◌+◌, ◌*◌, ◌^◌, ◌<◌, ◌≤◌, Bool, true, false, ◌||◌, cond, eqb, ltb, List, [], ◌∷◌, ◌++◌, length, Option, Some, None, refl, sym, ap, ◌∙◌, arith}
-use Rattle.std.specs.Prelude.{sum_by}
+use Rattle.std.proofs.Common.{◌≡◌, ℕ, zero, suc, ◌+◌, ◌*◌, ◌^◌, ◌<◌, ◌≤◌, Bool, true, false, ◌||◌, cond, eqb, ltb, List, [], ◌∷◌, ◌++◌, length, Option, Some, None, refl, sym, ap, ◌∙◌, arith, append_assoc, subst}
+use Rattle.std.specs.Prelude.{sum_by, slice_get, map}
 use Rattle.std.specs.List.{find, list_any, list_all}
 use Rattle.std.specs.Option.{option_map, option_or}
 use Rattle.std.proofs.lemmas.Bool.{eq-eqb, eqb-true, le-leb, ltb-false}
+use Rattle.std.proofs.lemmas.List.{append-nil}
 use Rattle.std.proofs.lemmas.List.Folds.{list_any-append}
 use Rattle.std.proofs.lemmas.List.Sums.{sum_by-cons}
 use Rattle.dsmcc_msg.specs.Control.{ModuleFields}
@@ -12,7 +13,7 @@ use Rattle.ssu_group.specs.Plan.{blocks_of, module_at, laid_out, size_of, block_
 use Rattle.dsmcc_msg.specs.Control.{DiiFields}
 use Rattle.ssu_group.specs.declared.unusable.Unusable.{Unusable}
 use Rattle.ssu_group.specs.declared.unusable.Unusable.TheVariants.{Compressed, NoBlockSize, TooManyBlocks, TwiceModule, TooLong, Empty}
-use Rattle.ssu_group.specs.Refusal.{id_of, has_too_many, first_compressed, is_no_block_size, first_too_many, first_twice, bytes_of_module, total_of, where_so, refusal}
+use Rattle.ssu_group.specs.Refusal.{id_of, has_too_many, first_compressed, is_no_block_size, first_too_many, first_twice, StoodEarlier, bytes_of_module, total_of, where_so, refusal}
 
 pub laid_joined : (b at first : ℕ) (ms : List ModuleFields) → are_joined b at first (laid_out b at first ms) ≡ true
 unfolding laid_out are_joined
@@ -65,6 +66,9 @@ blocks_few b (m ∷ ms) none =
     rw sum (omega arith)
 
 -- ---- no id stands twice
+
+abbrev some_plan : ModulePlan → Option ModulePlan
+some_plan p = Some p
 
 none_twice : (twice : Bool) (id : ℕ) (others : Option ℕ) → cond twice (Some id) others ≡ None → (twice ≡ false) × (others ≡ None)
 none_twice true id others none = absurd cc
@@ -176,3 +180,72 @@ laid_plan dii bank_len none short small =
       most_places = let few = blocks_few dii.block_size dii.modules is.few in omega (arith, few);
       most_bytes = let fits = is.fits in omega (arith, fits);
     }
+
+-- ---- where a module stands, and an id that stands twice, without going along the list
+
+moved : (b at at' first first' : ℕ) (m : ModuleFields) → at ≡ at' → first ≡ first' → some_plan (module_at b at first m) ≡ some_plan (module_at b at' first' m)
+moved b at at' first first' m e f = ap (λ (n : ℕ). some_plan (module_at b n first m)) e ∙ ap (λ (n : ℕ). some_plan (module_at b at' n m)) f
+
+placed : (b at first : ℕ) (before : List ModuleFields) (m : ModuleFields) (behind : List ModuleFields) →
+    slice_get (laid_out b at first (before ++ m ∷ behind)) (length before) ≡ Some (module_at b (at + total_of before) (first + sum_by (blocks_of b) before) m)
+unfolding laid_out
+placed b at first [] m behind = moved b at (at + 0) first (first + 0) m (omega arith) (omega arith)
+placed b at first (n ∷ ns) m behind =
+    let bytes : total_of (n ∷ ns) ≡ n.size + total_of ns = sum_by-cons bytes_of_module n ns in
+    let blocks : sum_by (blocks_of b) (n ∷ ns) ≡ blocks_of b n + sum_by (blocks_of b) ns = sum_by-cons (blocks_of b) n ns in
+    placed b (at + n.size) (first + blocks_of b n) ns m behind
+    ∙ moved b ((at + n.size) + total_of ns) (at + total_of (n ∷ ns)) ((first + blocks_of b n) + sum_by (blocks_of b) ns) (first + sum_by (blocks_of b) (n ∷ ns)) m
+    (omega (arith, bytes)) (omega (arith, blocks))
+
+-- a module begins at the sum of the sizes before it, and has as many blocks before it as the modules before it have
+pub module_placed : (b : ℕ) (before : List ModuleFields) (m : ModuleFields) (behind : List ModuleFields) →
+    slice_get (laid_out b 0 0 (before ++ m ∷ behind)) (length before) ≡ Some (module_at b (total_of before) (sum_by (blocks_of b) before) m)
+module_placed b before m behind =
+    placed b 0 0 before m behind ∙ moved b (0 + total_of before) (total_of before) (0 + sum_by (blocks_of b) before) (sum_by (blocks_of b) before) m (omega arith) (omega arith)
+
+found_twice : (earlier : List ℕ) (before : List ModuleFields) (m : ModuleFields) (behind : List ModuleFields) → first_twice earlier before ≡ None →
+    list_any (is_id m.id) (earlier ++ map id_of before) ≡ true → first_twice earlier (before ++ m ∷ behind) ≡ Some m.id
+unfolding first_twice
+found_twice earlier [] m behind none stood =
+    let here : list_any (is_id m.id) earlier ≡ true = subst (λ (ids : List ℕ). list_any (is_id m.id) ids ≡ true) (append-nil earlier) stood in
+    rw here refl
+found_twice earlier (n ∷ ns) m behind none stood =
+    let step = none_twice (list_any (is_id n.id) earlier) n.id (first_twice (earlier ++ n.id ∷ []) ns) none in
+    let later : list_any (is_id m.id) ((earlier ++ n.id ∷ []) ++ map id_of ns) ≡ true =
+    subst (λ (ids : List ℕ). list_any (is_id m.id) ids ≡ true) (sym (append_assoc earlier (n.id ∷ []) (map id_of ns))) stood in
+    rw step.0 (found_twice (earlier ++ n.id ∷ []) ns m behind step.1 later)
+
+-- an id that stood earlier is found, where none was found before it
+pub repeat_found : (before : List ModuleFields) (m : ModuleFields) (behind : List ModuleFields) → first_twice [] before ≡ None →
+    list_any (is_id m.id) (map id_of before) ≡ true → first_twice [] (before ++ m ∷ behind) ≡ Some m.id
+repeat_found before m behind none stood = found_twice [] before m behind none stood
+
+stood_by : (earlier : List ℕ) (m : ModuleFields) (ms : List ModuleFields) (id : ℕ) (stood : Bool) → list_any (is_id m.id) earlier ≡ stood →
+    cond stood (Some m.id) (first_twice (earlier ++ m.id ∷ []) ms) ≡ Some id →
+    (first_twice (earlier ++ m.id ∷ []) ms ≡ Some id → StoodEarlier (earlier ++ m.id ∷ []) ms id) → StoodEarlier earlier (m ∷ ms) id
+stood_by earlier m ms id true is e more =
+    let own : m.id ≡ id = cc in
+    record {
+      before = [];
+      part = m;
+      behind = ms;
+      parts = refl;
+      own = own;
+      stood = subst (λ (ids : List ℕ). list_any (is_id id) ids ≡ true) (sym (append-nil earlier)) (subst (λ (x : ℕ). list_any (is_id x) earlier ≡ true) own is);
+    }
+stood_by earlier m ms id false is e more =
+    let s = more e in
+    record {
+      before = m ∷ s.before;
+      part = s.part;
+      behind = s.behind;
+      parts = ap (λ (u : List ModuleFields). m ∷ u) s.parts;
+      own = s.own;
+      stood = subst (λ (ids : List ℕ). list_any (is_id id) ids ≡ true) (append_assoc earlier (m.id ∷ []) (map id_of s.before)) s.stood;
+    }
+
+-- what is found stood earlier
+pub found_stood : (earlier : List ℕ) (ms : List ModuleFields) (id : ℕ) → first_twice earlier ms ≡ Some id → StoodEarlier earlier ms id
+unfolding first_twice
+found_stood earlier [] id e = absurd cc
+found_stood earlier (m ∷ ms) id e = stood_by earlier m ms id (list_any (is_id m.id) earlier) refl e (found_stood (earlier ++ m.id ∷ []) ms id)

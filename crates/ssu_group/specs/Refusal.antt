@@ -1,5 +1,5 @@
 -- Why a DII cannot be used, for a bank of some length. The refusals stand in this order.
-use Rattle.std.specs.Prelude.{ℕ, Bool, ◌||◌, ◌==◌, nat_lt, List, [], ◌∷◌, ◌++◌, Option, Some, None, if◌then◌else◌, sum_by}
+use Rattle.std.specs.Prelude.{ℕ, Bool, ◌||◌, ◌==◌, nat_lt, List, [], ◌∷◌, ◌++◌, Option, Some, None, if◌then◌else◌, sum_by, ◌≡◌, map, true}
 use Rattle.std.specs.List.{find, list_any}
 use Rattle.std.specs.Option.{option_or, option_map}
 use Rattle.dsmcc_msg.specs.Control.{DiiFields, ModuleFields}
@@ -29,6 +29,15 @@ unfoldable pub first_twice : List ℕ → List ModuleFields → Option ℕ
 first_twice earlier [] = None
 first_twice earlier (m ∷ ms) =
     if list_any (λ id. id == m.id) earlier then Some m.id else first_twice (earlier ++ m.id ∷ []) ms
+
+-- Some module has this id, and a module before it, or one of these ids, has it too.
+pub record StoodEarlier (earlier : List ℕ) (ms : List ModuleFields) (id : ℕ) : Type 0 where
+  pub before : List ModuleFields
+  pub part : ModuleFields
+  pub behind : List ModuleFields
+  pub parts : ms ≡ before ++ part ∷ behind
+  pub own : part.id ≡ id
+  pub stood : list_any (λ other. other == id) (earlier ++ map id_of before) ≡ true
 
 abbrev pub bytes_of_module : ModuleFields → ℕ
 bytes_of_module m = m.size

@@ -15,7 +15,7 @@ mod unusable;
 
 pub use block_map::BlockMap;
 pub use group_plan::GroupPlan;
-pub use laws::places_fill_image;
+pub use laws::{modules_lie_in_order, places_fill_image, twice_is_the_first_that_stood_earlier};
 pub use module_plan::ModulePlan;
 pub use places::Place;
 pub use unusable::Unusable;

@@ -1,6 +1,9 @@
 //! Plans, places and maps of small groups.
 
-use crate::{BlockMap, GroupPlan, Place, Unusable, places_fill_image};
+use crate::{
+    BlockMap, GroupPlan, Place, Unusable, modules_lie_in_order, places_fill_image,
+    twice_is_the_first_that_stood_earlier,
+};
 use dsmcc_msg::{Ddb, Dii, DiiWriter};
 use std::alloc::Global;
 use std::test::Fail;
@@ -152,6 +155,8 @@ fn a_group_of_506_modules_has_a_place_for_each(rt: HostRuntime) -> Result<(), Fa
 #[test]
 fn a_map_counts_what_is_missing(rt: HostRuntime) -> Result<(), Fail> {
     places_fill_image();
+    modules_lie_in_order();
+    twice_is_the_first_that_stood_earlier();
     let mut map = BlockMap::new(rt.alloc(), 20)?;
     map.clear(19);
     assert_eq!(rt; map.missing(), 19);
