@@ -1,0 +1,4 @@
+pub mod Underway
+pub mod Least
+pub mod Order
+pub mod Gapless

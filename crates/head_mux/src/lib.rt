@@ -1,0 +1,12 @@
+//! The packets of a carousel's sections, turn by turn: each section comes again after its period.
+#![tactic(auto)]
+
+mod fault;
+mod packing;
+mod sending;
+#[cfg(test)]
+mod tests;
+mod turn;
+
+pub use fault::MuxFault;
+pub use sending::mux;
