@@ -14,24 +14,23 @@ rustc -O -o $out/plain_hear bench/plain_hear.rs
 $out/plain_hear $out/air.ts 256 > $out/plain.bin
 cmp $out/ours.bin $out/plain.bin
 python3 - "$out" <<'P'
-import os, resource, subprocess, sys, time
+import os, subprocess, sys, time
 out = sys.argv[1]
-program = "crates/ssu/out/ssu"
-commands = {"ssu": [program, out, "hear", "256"], "plain Rust": [out + "/plain_hear", out + "/air.ts", "256"]}
+commands = {"ssu": ["crates/ssu/out/ssu", out, "hear", "256"], "plain Rust": [out + "/plain_hear", out + "/air.ts", "256"]}
 best = {name: 1e9 for name in commands}
-resident = {name: 0 for name in commands}
 for _ in range(10):
     for name, command in commands.items():
         with open(os.devnull, "wb") as null:
             start = time.perf_counter()
-            child = subprocess.Popen(command, stdout=null)
-            _, status, usage = os.wait4(child.pid, 0)
+            subprocess.run(command, stdout=null, check=True)
             best[name] = min(best[name], time.perf_counter() - start)
-            resident[name] = max(resident[name], usage.ru_maxrss)
-            if status != 0:
-                sys.exit("%s ended with status %d" % (name, status))
 size = os.path.getsize(out + "/air.ts")
-for name in commands:
-    print("%-10s %6.3f s  %6.0f MB/s  %6d KiB resident" % (name, best[name], size / best[name] / 1e6, resident[name]))
+for name, command in commands.items():
+    resident = "unknown"
+    if os.path.exists("/usr/bin/time"):
+        with open(os.devnull, "wb") as null:
+            run = subprocess.run(["/usr/bin/time", "-f", "%M"] + command, stdout=null, stderr=subprocess.PIPE, text=True)
+        resident = run.stderr.split()[-1]
+    print("%-10s %6.3f s  %6.0f MB/s  %s KiB resident" % (name, best[name], size / best[name] / 1e6, resident))
 print("ratio %.2f" % (best["ssu"] / best["plain Rust"]))
 P

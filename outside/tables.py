@@ -1,7 +1,7 @@
 #!/usr/bin/env python3
 """Compares sections with what independent decoders read in them.
 
-The sections of SECTIONS are those of the tests of crates/si_table. Each is put into a transport stream, which
+The sections of SECTIONS are those of crates/si_table/src/outside.rt. Each is put into a transport stream, which
 tshark (Wireshark) and libdvbpsi (by the small program tables.c) read; the fields that they print must be the
 ones stated here, and tshark must find each CRC right. A tool that is not installed is skipped, and said to be.
 

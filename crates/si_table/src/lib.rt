@@ -4,6 +4,8 @@
 
 mod fields;
 mod net;
+#[cfg(test)]
+mod outside;
 mod pat;
 mod pmt;
 mod pmt_writer;
