@@ -48,7 +48,7 @@ module _ (g : Geometry) (x : List ℕ) where
   first_outside m1 m2 m3 y P Q R S image limits fits one two three four = record {
     size = four.size ∙ (three.size ∙ (two.size ∙ one.size));
     same = λ k records bank. out_of _ _ S m3 y k four (less_out 0 (2 * g.block_len) 64 k (omega (arith, limits.least_len)) records)
-      ∙ (out_of _ _ R m2 m3 k three (less_out _ _ _ k fits bank) ∙ (out_of _ _ Q m1 m2 k two bank ∙ out_of _ _ P x m1 k one records));
+        ∙ (out_of _ _ R m2 m3 k three (less_out _ _ _ k fits bank) ∙ (out_of _ _ Q m1 m2 k two bank ∙ out_of _ _ P x m1 k one records));
   }
 
 module _ (g : Geometry) (limits : IsInLimits g) (image : List ℕ) (software : SwId) (x y : List ℕ) (size : length x ≡ g.blocks * g.block_len)

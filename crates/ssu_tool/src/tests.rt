@@ -3,6 +3,8 @@ use ssu_io::{MemSink, MemSource};
 use ssu_status::Status;
 use std::alloc::{AllocError, Global};
 use std::test::Fail;
+use ts_packet::Pid;
+use ts_section::{LongForm, cut, long_section};
 
 /// A packet of PID 20 with one TDT section.
 const TDT_PACKET: [u8; 13] = [
@@ -132,5 +134,35 @@ fn random_bytes_and_unusable_packets_are_passed_over(rt: HostRuntime) -> Result<
     let outcome = outcome_of(alloc, &["folder", "hear", "20"], air, &[], &[])?;
     assert_eq!(rt; outcome.status, Status::Done);
     assert_eq!(rt; outcome.put.as_slice(), &TDT_PACKET[5..]);
+    Ok(())
+}
+
+#[test]
+fn a_pat_is_heard_unless_a_bit_of_it_changed(rt: HostRuntime) -> Result<(), Fail> {
+    let alloc = rt.alloc();
+    let head = LongForm {
+        table: 0x00,
+        extension: 1,
+        version: 0,
+        number: 0,
+        last: 0,
+        body: &[0x00, 0x03, 0xE1, 0x00],
+    };
+    let section = long_section(alloc, head, false)?;
+    assert_eq!(rt; section.len(), 16);
+    assert_eq!(rt; section[0], 0x00);
+    let mut air = Vec::new(alloc);
+    let _counter = cut(&section, Pid::new(0).ok_or("a PID")?, 0, &mut air)?;
+    let heard = outcome_of(alloc, &["folder", "hear", "0"], air.clone()?, &[], &[])?;
+    assert_eq!(rt; heard.status, Status::Done);
+    assert_eq!(rt; heard.put.as_slice(), section.as_slice());
+    for place in 5..21usize {
+        let mut changed = air.clone()?;
+        assert_eq!(rt; changed.len(), 188);
+        changed[place] ^= 0x10;
+        let heard = outcome_of(alloc, &["folder", "hear", "0"], changed, &[], &[])?;
+        assert_eq!(rt; heard.status, Status::Done);
+        assert!(rt; heard.put.is_empty(), "place {place}");
+    }
     Ok(())
 }

@@ -7,6 +7,7 @@ use arrayvec::ArrayVec;
 use section_form::{LongForm, MakeFault, long_section};
 use si_desc::descs;
 use ssu_compat::{BoxId, Oui, Plain, write};
+use ssu_time::Window;
 use std::alloc::Global;
 use std::test::Fail;
 
@@ -192,4 +193,50 @@ fn what_is_no_table_is_refused(rt: HostRuntime) -> Result<(), Fail> {
     let common_past_the_body = [0, 0x12, 0x34, 0, 0xF0, 1];
     assert!(rt; !is_table(&section(alloc, &common_past_the_body)?));
     Ok(())
+}
+
+#[test]
+fn windows_open_and_close_at_the_second(rt: HostRuntime) {
+    let once = Window {
+        start: 1000,
+        end: 2000,
+        period: 0,
+        duration: 0,
+    };
+    let by_turns = Window {
+        start: 1000,
+        end: 2000,
+        period: 100,
+        duration: 10,
+    };
+    // the window, the second, whether it is open
+    let rows: [(Window, u64, bool); 10] = [
+        (once, 999, false),
+        (once, 1000, true),
+        (once, 1999, true),
+        (once, 2000, false),
+        (by_turns, 1000, true),
+        (by_turns, 1009, true),
+        (by_turns, 1010, false),
+        (by_turns, 1099, false),
+        (by_turns, 1900, true),
+        (by_turns, 2000, false),
+    ];
+    for (window, second, is_open) in rows {
+        let mut windows = ArrayVec::new();
+        windows.push(Window::default());
+        windows.push(window);
+        let entry = UntEntry {
+            tag: 1,
+            windows,
+            manual: false,
+            subgroup: None,
+        };
+        assert_eq!(rt;
+            entry.is_open(Some(second), false),
+            is_open,
+            "second {second}"
+        );
+        assert!(rt; !entry.is_open(None, false));
+    }
 }
