@@ -1,5 +1,5 @@
 -- What is heard and put, packet by packet.
-use Rattle.std.proofs.Common.{zero, suc, ◌≡◌, ℕ, ◌+◌, ◌*◌, ◌<◌, ◌≤◌, List, [], ◌∷◌, ◌++◌, length, take, drop, Option, Some, None, arith, sym, ap, subst, refl, ◌∙◌, append_assoc, append-nil, length-append}
+use Rattle.std.proofs.Common.{zero, suc, ◌≡◌, ℕ, ◌+◌, ◌*◌, ◌<◌, List, [], ◌∷◌, ◌++◌, length, take, drop, Option, Some, arith, sym, ap, subst, refl, ◌∙◌, append_assoc, append-nil, length-append}
 use Rattle.std.specs.List.{concat, slice_get}
 use Rattle.std.proofs.lemmas.List.{take-append-drop}
 use Rattle.ssu_io.specs.Bytes.{Takes, Gains, GainsPrefix}
@@ -13,7 +13,7 @@ use Rattle.ts_input.proofs.PacketLemmas.{packets_more, packets_end, packets_of_r
 use Rattle.ts_section.specs.Events.{Event, Listen, Feed, heard, fed, heard_of, hear}
 use Rattle.ts_section.specs.Hearing.{Hears}
 use Rattle.ts_section.specs.declared.hearer.Hearer.{Hearer}
-use Rattle.ssu_tool.specs.Hear.{most_bytes, PutsHeard, PutsHeardOfMost, PutsPrefix}
+use Rattle.ssu_tool.specs.Hear.{PutsHeard, PutsHeardOfMost, PutsPrefix}
 
 concat_append : (xss yss : List (List ℕ)) → concat (xss ++ yss) ≡ concat xss ++ concat yss
 concat_append [] yss = refl

@@ -1,4 +1,4 @@
-use Rattle.std.proofs.Common.{◌≡◌, ◌≤◌, ◌++◌, arith}
+use Rattle.std.proofs.Common.{arith}
 use Rattle.std.proofs.lemmas.Result.{err_from_is_err_and}
 use Rattle.ssu_tool.proofs.HearLemmas.{sections_step, sections_failed}
 use Rattle.ssu_tool.proofs.hear.put_sections.Goals as goal

@@ -1,4 +1,4 @@
-use Rattle.std.proofs.Common.{◌≡◌, ℕ, Some, None, subst, refl}
+use Rattle.std.proofs.Common.{◌≡◌, ℕ, Some, subst, refl}
 use Rattle.ssu_status.specs.declared.command.Command.{Command}
 use Rattle.ssu_status.specs.declared.command.Command.TheVariants.{Hear}
 use Rattle.ssu_status.specs.Status.{OnDone, OnReadFault, OnTooLong, OnWriteFault}
