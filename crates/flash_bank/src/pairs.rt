@@ -1,4 +1,4 @@
-// The dual rail of a record: each byte b stands as the pair b, 255 - b, so a whole pair sums to 255.
+// The pairs of a record: each byte b stands as the pair b, 255 - b, so a whole pair sums to 255.
 // A torn erase or program only raises bytes. So a pair that summed to 255 or more and sums to 255 after it is
 // the pair of before the erase, or the finished pair of the program: nothing torn can turn valid by itself.
 ghost use Rattle.std.specs.Prelude.{◌≡◌, ◌↔◌, ◌+◌, ◌*◌, ◌<◌, ◌≤◌, ℕ, IsTrue, IfSome, IsSome, length, slice_index};
