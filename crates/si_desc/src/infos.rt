@@ -6,6 +6,7 @@ ghost use Rattle.std.specs.Option.{option_map};
 ghost use Rattle.wire.specs.Items.{items_of};
 ghost use Rattle.wire.specs.Read.{Reads};
 ghost use Rattle.si_desc.specs.SsuInfo.{InfoFields, info, update_infos};
+ghost use Rattle.si_desc.specs.Descriptors.{IsRow};
 ghost use Rattle.si_desc.specs.Written.{IsUpdateInfo, info_bytes};
 
 use ssu_compat::Oui;
@@ -91,9 +92,19 @@ pub fn put_ssu_info(out: &mut Vec<u8>, oui: Oui, update_type: u8) -> Result<(), 
     requires { update_type < 16 }
     ensures put { OnOk result (out.new.items ≡ out.old.items ++ info_bytes oui update_type) }
     ensures read_back { OnOk result (IsUpdateInfo oui update_type (info_bytes oui update_type)) }
+    // A row of descriptors stays one.
+    ensures row { IsRow out.old.items → OnOk result (IsRow out.new.items) }
     ensures unchanged { OnErr result (out.new.items ≡ out.old.items) }
 {
-    let [_, o, u, i] = oui.get().to_be_bytes();
-    out.extend_from_slice(&[0x66, 9, 0x00, 0x0A, 6, o, u, i, 0xF0 + update_type, 0xC0, 0])?;
+    out.extend_from_slice(&descriptor_of(oui, update_type))?;
     Ok(())
+}
+
+fn descriptor_of(oui: Oui, update_type: u8) -> [u8; 11]
+    requires { update_type < 16 }
+    ensures bytes { result ≡ info_bytes oui update_type }
+    ensures read_back { IsUpdateInfo oui update_type (info_bytes oui update_type) }
+{
+    let [_, o, u, i] = oui.get().to_be_bytes();
+    [0x66, 9, 0x00, 0x0A, 6, o, u, i, 0xF0 + update_type, 0xC0, 0]
 }

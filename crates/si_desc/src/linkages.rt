@@ -6,6 +6,7 @@ ghost use Rattle.wire.specs.Items.{items_of};
 ghost use Rattle.wire.specs.Read.{Reads};
 ghost use Rattle.si_desc.specs.Linkage.{LinkageFields, OuiFields, linkage, lists, oui_entry, update_ouis};
 ghost use Rattle.si_desc.specs.Views.{linkage_view};
+ghost use Rattle.si_desc.specs.Descriptors.{IsRow};
 ghost use Rattle.si_desc.specs.Written.{IsUpdateLinkage, linkage_bytes, service_of};
 
 use ssu_compat::Oui;
@@ -74,6 +75,8 @@ pub fn lists_oui(rest: &[u8], oui: Oui) -> Option<bool>
 pub fn put_linkage(out: &mut Vec<u8>, to: ServiceRef, oui: Oui) -> Result<(), NoMemory>
     ensures put { OnOk result (out.new.items ≡ out.old.items ++ linkage_bytes to oui) }
     ensures read_back { OnOk result (IsUpdateLinkage to oui (linkage_bytes to oui)) }
+    // A row of descriptors stays one.
+    ensures row { IsRow out.old.items → OnOk result (IsRow out.new.items) }
     ensures unchanged { OnErr result (out.new.items ≡ out.old.items) }
 {
     out.extend_from_slice(&descriptor_of(to.ts, to.network, to.service, oui))?;

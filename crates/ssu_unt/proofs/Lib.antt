@@ -1,3 +1,4 @@
+pub mod AnnouncedLaws
 pub mod Counting
 pub mod Keeping
 pub mod Spelling

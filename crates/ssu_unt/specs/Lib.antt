@@ -1,3 +1,4 @@
+pub mod Announced
 pub mod Descriptors
 pub mod Exact
 pub mod Table

@@ -7,7 +7,7 @@ use arrayvec::ArrayVec;
 use section_form::{LongForm, MakeFault, long_section};
 use si_desc::descs;
 use ssu_compat::{BoxId, Oui, Plain, write};
-use ssu_time::Window;
+use ssu_time::{Window, civil};
 use std::alloc::Global;
 use std::test::Fail;
 
@@ -175,6 +175,26 @@ fn a_schedule_opens_a_nightly_window(rt: HostRuntime) -> Result<(), Fail> {
         seen = seen.saturating_add(1);
     }
     assert_eq!(rt; seen, 1);
+    Ok(())
+}
+
+#[test]
+fn descriptors_of_an_operational_loop_are_these_bytes(rt: HostRuntime) -> Result<(), Fail> {
+    let start = civil("2024-03-01T01:00:00").ok_or("start")?;
+    let end = civil("2024-04-01T01:00:00").ok_or("end")?;
+    let mut row = Vec::new(rt.alloc());
+    put_scheduling(&mut row, start, end, 24, 2)?;
+    put_update(&mut row, true)?;
+    put_ssu_location(&mut row, 2)?;
+    put_ssu_subgroup(&mut row, 258)?;
+    put_scheduling(&mut row, start, end, 0, 2)?;
+    put_update(&mut row, false)?;
+    let bytes = [
+        0x01, 14, 0xEB, 0xD2, 0x01, 0, 0, 0xEB, 0xF1, 0x01, 0, 0, 0x68, 24, 2, 0, 0x02, 1, 0x00,
+        0x03, 4, 0x00, 0x0A, 0x00, 2, 0x0B, 5, 0, 0, 0, 1, 2, 0x01, 14, 0xEB, 0xD2, 0x01, 0, 0,
+        0xEB, 0xF1, 0x01, 0, 0, 0x28, 0, 0, 0, 0x02, 1, 0x40,
+    ];
+    assert_eq!(rt; row.as_slice(), bytes.as_slice());
     Ok(())
 }
 

@@ -1,8 +1,6 @@
-use Rattle.std.proofs.Common.{◌<◌, ◌^◌, arith}
-use Rattle.si_desc.proofs.Puts.{info_put}
+use Rattle.std.proofs.Common.{rules}
+use Rattle.si_desc.proofs.RowLaws.{row_push}
 use Rattle.si_desc.proofs.infos.put_ssu_info.Goals as goal
 
-pub returns-clause-read_back : goal.returns-clause-read_back
-returns-clause-read_back c =
-    let fits : c.args.oui < 2 ^ 24 = omega (arith, c.get.ensures.number, c.get.ensures.in_range) in
-    info_put c.args.oui c.args.update_type fits c.requires
+pub returns-clause-row : goal.returns-clause-row
+returns-clause-row c = λ row. row_push c.args.out.now.items _ _ _ c.descriptor_of.ensures.read_back.spelled (search rules) row

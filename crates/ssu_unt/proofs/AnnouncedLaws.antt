@@ -1,0 +1,158 @@
+-- The written descriptors are read back.
+use Rattle.std.proofs.Common.{◌≡◌, ℕ, ◌+◌, ◌*◌, ◌/◌, ◌%◌, ◌<◌, ◌≤◌, ◌^◌, Bool, true, false, ◌&&◌, cond, eqb, [], ◌++◌, refl, arith}
+use Rattle.std.proofs.lemmas.Bool.{eqb-true, le-leb}
+use Rattle.si_desc.proofs.Puts.{desc_put}
+use Rattle.ssu_time.specs.UtcTime.{bcd, decimal, utc_bytes, utc_seconds}
+use Rattle.ssu_time.specs.declared.utc_time.Utc.{Utc}
+use Rattle.wire.specs.Number.{bytes_of, number1_put, number2_put, number5_put}
+use Rattle.ssu_unt.specs.Descriptors.{utc, scheduling, second_of, is_decimal, is_time, turns_if, update_flag, location, subgroup}
+use Rattle.ssu_unt.specs.Announced.{IsLocation, IsScheduling, IsSubgroup, IsUpdate, flag_for, hours_by_turns, hours_window, location_bytes, schedule_flags, scheduling_bytes, subgroup_bytes, update_bytes}
+
+-- ---- times
+
+tens : (a b : ℕ) → b < 10 → (a * 16 + b) / 16 ≡ a
+tens a b h = omega arith
+
+ones : (a b : ℕ) → b < 10 → (a * 16 + b) % 16 ≡ b
+ones a b h = omega arith
+
+decimal-bcd : (n : ℕ) → decimal (bcd n) ≡ n
+decimal-bcd n = rw (tens (n / 10) (n % 10) (omega arith), ones (n / 10) (n % 10) (omega arith)) (omega arith)
+
+all_true : (a b c : Bool) → a ≡ true → b ≡ true → c ≡ true → (a && b && c) ≡ true
+all_true a b c p q r = rw (p, q, r) refl
+
+bcd_is_decimal : (n most : ℕ) → n ≤ most → most < 100 → is_decimal (bcd n) most ≡ true
+bcd_is_decimal n most le lt =
+    let t : bcd n / 16 ≡ n / 10 = tens (n / 10) (n % 10) (omega arith) in
+    let o : bcd n % 16 ≡ n % 10 = ones (n / 10) (n % 10) (omega arith) in
+    all_true _ _ _ (le-leb (bcd n / 16) 9 (omega arith)) (le-leb (bcd n % 16) 9 (omega arith)) (le-leb (decimal (bcd n)) most (rw (decimal-bcd n) le))
+
+utc_put : (mjd second : ℕ) → second < 86400 → utc.Spells (utc_seconds mjd second) (utc_bytes mjd second)
+unfolding utc
+utc_put mjd second lt =
+    let day : mjd / 256 * 256 + mjd % 256 ≡ mjd = omega arith in
+    let all : second / 3600 * 3600 + second / 60 % 60 * 60 + second % 60 ≡ second = omega arith in
+    let time : is_time (utc_bytes mjd second) ≡ true = all_true _ _ _ (bcd_is_decimal (second / 3600) 23 (omega arith) (omega arith)) (bcd_is_decimal (second / 60 % 60) 59 (omega arith) (omega arith)) (bcd_is_decimal (second % 60) 59 (omega arith) (omega arith)) in
+    let is : second_of (utc_bytes mjd second) ≡ utc_seconds mjd second = rw (decimal-bcd (second / 3600), decimal-bcd (second / 60 % 60), decimal-bcd (second % 60), day, all) refl in
+    (utc_bytes mjd second, is, (time, (refl, refl)))
+
+-- ---- scheduling
+
+-- what the flag leads to, where there is no period or one
+turns_by : (b : Bool) (period duration : ℕ) → (b ≡ true → period ≡ 0) → period < 2 ^ 8 → duration < 2 ^ 8
+    → (turns_if (eqb (cond b 40 104 / 64 % 2) 1) (cond b 40 104)).Spells (period * 3600, cond b 0 duration * 3600) (bytes_of 1 period ++ (bytes_of 1 (cond b 0 duration) ++ bytes_of 1 0))
+turns_by true period duration none p d = let is : period ≡ 0 = none refl in rw is (bytes_of 1 0 ++ (bytes_of 1 0 ++ bytes_of 1 0), refl, refl)
+turns_by false period duration none p d = (
+  ((period, (duration, 0)), []),
+  refl,
+  record {
+    front = bytes_of 1 period ++ (bytes_of 1 duration ++ bytes_of 1 0);
+    back = [];
+    parts = refl;
+    first = record {
+      front = bytes_of 1 period;
+      back = bytes_of 1 duration ++ bytes_of 1 0;
+      parts = refl;
+      first = number1_put period p;
+      second = record { front = bytes_of 1 duration; back = bytes_of 1 0; parts = refl; first = number1_put duration d; second = number1_put 0 (omega arith) };
+    };
+    second = refl;
+  },
+)
+
+turns_put : (period duration : ℕ) → period < 2 ^ 8 → duration < 2 ^ 8
+    → (turns_if (eqb (schedule_flags period / 64 % 2) 1) (schedule_flags period)).Spells (period * 3600, hours_by_turns period duration * 3600)
+    (bytes_of 1 period ++ (bytes_of 1 (hours_by_turns period duration) ++ bytes_of 1 0))
+turns_put period duration p d = turns_by (eqb period 0) period duration (λ e. eqb-true period 0 e) p d
+
+small_by : (b : Bool) → cond b 40 104 < 2 ^ 8
+small_by true = omega arith
+small_by false = omega arith
+
+flags_small : (period : ℕ) → schedule_flags period < 2 ^ 8
+flags_small period = small_by (eqb period 0)
+
+pub scheduling_put : (start end : Utc) (period duration : ℕ) → start.second < 86400 → end.second < 86400 → period < 2 ^ 8 → duration < 2 ^ 8
+    → IsScheduling (hours_window start end period duration) (scheduling_bytes (utc_bytes start.mjd start.second) (utc_bytes end.mjd end.second) period duration)
+unfolding scheduling
+scheduling_put start end period duration s e p d =
+    let turns = bytes_of 1 period ++ (bytes_of 1 (hours_by_turns period duration) ++ bytes_of 1 0) in
+    let behind = bytes_of 1 (schedule_flags period) ++ turns in
+    let body = utc_bytes start.mjd start.second ++ (utc_bytes end.mjd end.second ++ behind) in
+    record {
+      body = body;
+      spelled = desc_put 0x01 body (omega arith) (omega arith);
+      opens = (
+        (utc_seconds start.mjd start.second, (utc_seconds end.mjd end.second, (schedule_flags period, (period * 3600, hours_by_turns period duration * 3600)))),
+        refl,
+        record {
+          front = utc_bytes start.mjd start.second;
+          back = utc_bytes end.mjd end.second ++ behind;
+          parts = refl;
+          first = utc_put start.mjd start.second s;
+          second = record {
+            front = utc_bytes end.mjd end.second;
+            back = behind;
+            parts = refl;
+            first = utc_put end.mjd end.second e;
+            second = record {
+              front = bytes_of 1 (schedule_flags period);
+              back = turns;
+              parts = refl;
+              first = number1_put (schedule_flags period) (flags_small period);
+              second = turns_put period duration p d;
+            };
+          };
+        },
+      );
+    }
+
+-- ---- the others
+
+flag_put : (manual : Bool) → update_flag.Spells (flag_for manual) (bytes_of 1 (flag_for manual * 64))
+unfolding update_flag
+flag_put true = ((0, []), refl, record { front = bytes_of 1 0; back = []; parts = refl; first = number1_put 0 (omega arith); second = refl })
+flag_put false = ((64, []), refl, record { front = bytes_of 1 64; back = []; parts = refl; first = number1_put 64 (omega arith); second = refl })
+
+pub update_put : (manual : Bool) → IsUpdate (flag_for manual) (update_bytes manual)
+update_put manual = record {
+  body = bytes_of 1 (flag_for manual * 64);
+  spelled = desc_put 0x02 (bytes_of 1 (flag_for manual * 64)) (omega arith) (omega arith);
+  flagged = flag_put manual;
+}
+
+pub location_put : (tag : ℕ) → tag < 2 ^ 8 → IsLocation tag (location_bytes tag)
+unfolding location
+location_put tag h =
+    let behind = bytes_of 1 0 ++ bytes_of 1 tag in
+    let body = bytes_of 2 0x000A ++ behind in
+    record {
+      body = body;
+      spelled = desc_put 0x03 body (omega arith) (omega arith);
+      leads = (
+        (tt, ((tt, tag), [])),
+        refl,
+        record {
+          front = bytes_of 2 0x000A;
+          back = behind;
+          parts = refl;
+          first = number2_put 0x000A (omega arith);
+          second = record {
+            front = behind;
+            back = [];
+            parts = refl;
+            first = record { front = bytes_of 1 0; back = bytes_of 1 tag; parts = refl; first = number1_put 0 (omega arith); second = number1_put tag h };
+            second = refl;
+          };
+        },
+      );
+    }
+
+pub subgroup_put : (number : ℕ) → number < 2 ^ 40 → IsSubgroup number (subgroup_bytes number)
+unfolding subgroup
+subgroup_put number h = record {
+  body = bytes_of 5 number;
+  spelled = desc_put 0x0B (bytes_of 5 number) (omega arith) (omega arith);
+  numbered = number5_put number h;
+}
