@@ -1,0 +1,49 @@
+-- The printed lines. Each ends with a line feed.
+use Rattle.std.specs.Prelude.{ℕ, List, ◌++◌, codes, decimal}
+use Rattle.ssu_answer.specs.Levels.{name_of, number_of}
+use Rattle.ssu_answer.specs.declared.level.Level.{Level}
+use Rattle.ssu_compat.specs.declared.rule.SwId.{SwId}
+use Rattle.ssu_line.specs.Digits.{hex_word}
+
+-- loaded group G bytes L
+abbrev pub loaded_line : ℕ → ℕ → List ℕ
+loaded_line group bytes =
+    codes "loaded group " ++ decimal group ++ codes " bytes " ++ decimal bytes ++ codes "\n"
+
+-- nothing level K NAME
+abbrev pub nothing_line : Level → List ℕ
+nothing_line level =
+    codes "nothing level " ++ decimal (number_of level) ++ codes " " ++ name_of level ++ codes "\n"
+
+-- incomplete group G missing N
+abbrev pub incomplete_line : ℕ → ℕ → List ℕ
+incomplete_line group missing =
+    codes "incomplete group " ++ decimal group ++ codes " missing " ++ decimal missing ++ codes "\n"
+
+-- bad module I want C found C
+abbrev pub bad_module_line : ℕ → ℕ → ℕ → List ℕ
+bad_module_line id want found =
+    codes "bad module " ++ decimal id ++ codes " want " ++ hex_word want ++ codes " found " ++ hex_word found ++ codes "\n"
+
+-- sections N packets P
+abbrev pub built_line : ℕ → ℕ → List ℕ
+built_line sections packets =
+    codes "sections " ++ decimal sections ++ codes " packets " ++ decimal packets ++ codes "\n"
+
+-- blank N
+abbrev pub blank_line : ℕ → List ℕ
+blank_line blocks = codes "blank " ++ decimal blocks ++ codes "\n"
+
+-- formatted bytes L
+abbrev pub formatted_line : ℕ → List ℕ
+formatted_line bytes = codes "formatted bytes " ++ decimal bytes ++ codes "\n"
+
+-- M.V
+abbrev pub software_text : SwId → List ℕ
+software_text software = decimal software.model ++ codes "." ++ decimal software.version
+
+-- boot bank B number N software M.V bytes L
+abbrev pub booted_line : ℕ → ℕ → SwId → ℕ → List ℕ
+booted_line bank number software bytes =
+    codes "boot bank " ++ decimal bank ++ codes " number " ++ decimal number
+    ++ codes " software " ++ software_text software ++ codes " bytes " ++ decimal bytes ++ codes "\n"
