@@ -1,0 +1,6 @@
+use Rattle.std.proofs.Common.{refl}
+use Rattle.section_kind.proofs.Reading.{time_again}
+use Rattle.section_kind.proofs.readers.tot.Goals as goal
+
+pub returns : goal.returns
+returns c = rw (c.in_ok-tot.ensures.reads, time_again c.in_ok-tot.tot.time) refl
