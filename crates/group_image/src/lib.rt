@@ -1,0 +1,10 @@
+//! The image of a group of a software update while it is collected in memory.
+#![tactic(auto)]
+
+mod image;
+mod laws;
+#[cfg(test)]
+mod tests;
+
+pub use image::GroupImage;
+pub use laws::{places_join_to_image, whole_image_has_all_bytes};
