@@ -1,0 +1,13 @@
+pub mod Same
+pub mod Opening
+pub mod Parts
+pub mod Rows
+pub mod Room
+pub mod Lists
+pub mod Itself
+pub mod Services
+pub mod Sixteen
+pub mod Steps
+pub mod Standing
+pub mod Beginning
+pub mod Unmoved

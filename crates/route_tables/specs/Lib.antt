@@ -1,0 +1,7 @@
+pub mod Values
+pub mod Said
+pub mod Levels
+pub mod Next
+pub mod Parts
+pub mod Standing
+pub mod Unmoved
