@@ -1,0 +1,13 @@
+pub mod Same
+pub mod Parts
+pub mod FoundLists
+pub mod Accepting
+pub mod TakingLaws
+pub mod Messages
+pub mod LevelSteps
+pub mod Hearing
+pub mod Choices
+pub mod ControlTable
+pub mod Answering
+pub mod Standstill
+pub mod OwnGroup

@@ -1,0 +1,10 @@
+pub mod Offers
+pub mod Choosing
+pub mod Windows
+pub mod Queries
+pub mod Kept
+pub mod Accepted
+pub mod Taking
+pub mod Standing
+pub mod Route
+pub mod Staying
