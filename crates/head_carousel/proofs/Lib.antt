@@ -1,0 +1,9 @@
+pub mod BlockLaws
+pub mod ControlLaws
+pub mod GroupLaws
+pub mod ListLaws
+pub mod MadeLaws
+pub mod NoticeLaws
+pub mod SignalLaws
+pub mod RefusalLaws
+pub mod PidLaws
