@@ -1,7 +1,9 @@
 //! `ssu FOLDER COMMAND ARGUMENTS`: DVB System Software Update over the files of a folder.
 #![tactic(auto)]
 
+use flash_dev::FileFlash;
 use ssu_io::{RealSink, RealSource, Sink, StdSink};
+use ssu_shelf::FolderShelf;
 use ssu_status::{Status, made_file};
 use ssu_tool::run;
 use std::alloc::{AllocError, Global};
@@ -11,7 +13,18 @@ use std::{env, io};
 
 const HELP: &str = "usage: ssu FOLDER COMMAND ARGUMENTS
 
-  hear PID   writes the right whole sections of the PID in air.ts to standard output
+  hear PID      writes the right whole sections of the PID in air.ts to standard output
+  load PID      takes a group out of the carousel on the PID in air.ts into group.bin
+  find          prints how far the way to an update for the box in box.toml leads in air.ts
+  show          prints each section heard on the way, and then what find prints
+  build         makes air.ts, the broadcast that plan.toml asks for
+  blank N       makes flash.bin, a blank flash of N blocks of 4096 bytes, 4 to 65536
+  format FILE   formats flash.bin with the image in FILE and the software in box.toml
+  boot          takes the image that boot takes in flash.bin into image.bin
+
+Exit codes: 0 done, 2 wrong words, 3 box.toml refused, 4 plan refused, 5 flash is foreign, 6 nothing found,
+7 incomplete, 8 bad module, 9 file absent, 10 read failed, 11 write failed, 12 flash failed, 14 input too long,
+15 out of memory, 16 image does not fit, 17 wrong geometry, 18 file could not be read, 20 build refused.
 
 ssu --help and ssu --version print this text and the version.
 ";
@@ -72,10 +85,14 @@ fn in_folder(
 ) -> Result<Status, AllocError> {
     let alloc = rt.alloc();
     let folder = words.first().map_or("", |word| word.as_str());
+    let mut shelf = FolderShelf::new(rt, String::from_str(alloc, folder)?);
     let mut air = RealSource::new(rt, path(alloc, folder, "air.ts")?);
+    let mut flash = FileFlash::new(rt, path(alloc, folder, "flash.bin")?);
     let mut made = RealSink::new(rt, path(alloc, folder, made_file(words).as_str())?);
     let mut out = StdSink::new(rt);
-    Ok(run(alloc, words, &mut air, &mut made, &mut out))
+    Ok(run(
+        alloc, words, &mut shelf, &mut air, &mut flash, &mut made, &mut out,
+    ))
 }
 
 fn path(alloc: Global, folder: &str, name: &str) -> Result<String, AllocError> {

@@ -1,25 +1,59 @@
 -- The exit code of a status, and its text on standard error.
-use Rattle.std.specs.Prelude.{ℕ, List, [], codes}
+use Rattle.std.specs.Prelude.{ℕ, List, [], ◌++◌, codes, decimal}
+use Rattle.ssu_answer.specs.declared.build_fault.BuildFault.{BuildFault}
+use Rattle.ssu_answer.specs.declared.build_fault.BuildFault.TheVariants.{ImageTooLong, TooManySections, Memory}
+use Rattle.ssu_answer.specs.declared.chosen.Chosen.{Chosen}
+use Rattle.ssu_answer.specs.declared.level.Level.{Level}
 use Rattle.ssu_status.specs.declared.status.Status.{Status}
-use Rattle.ssu_status.specs.declared.status.Status.TheVariants.{Done, Usage, ReadFault, WriteFault, TooLong, NoMemory}
+use Rattle.ssu_status.specs.declared.status.Status.TheVariants.{Done, Usage, BoxRefused, PlanRefused, Foreign, Nothing, Incomplete, BadModule, Absent, ReadFault, WriteFault, FlashFault, TooLong, NoMemory, NoFit, Geometry, ShelfFault, BuildRefused}
 
 abbrev pub code_of : Status → ℕ
 code_of Done = 0
 code_of Usage = 2
+code_of (BoxRefused field) = 3
+code_of (PlanRefused field) = 4
+code_of Foreign = 5
+code_of (Nothing level) = 6
+code_of (Incomplete chosen missing) = 7
+code_of (BadModule id want found) = 8
+code_of (Absent name) = 9
 code_of ReadFault = 10
 code_of WriteFault = 11
+code_of FlashFault = 12
 code_of TooLong = 14
 code_of NoMemory = 15
+code_of NoFit = 16
+code_of Geometry = 17
+code_of ShelfFault = 18
+code_of (BuildRefused fault) = 20
+
+abbrev pub refusal_text : BuildFault → List ℕ
+refusal_text (ImageTooLong name) = name.bytes ++ codes " is too long"
+refusal_text (TooManySections count) = codes "too many sections: " ++ decimal count
+refusal_text Memory = []
 
 abbrev pub text_of : Status → List ℕ
 text_of Done = []
 text_of Usage = codes "usage"
+text_of (BoxRefused field) = codes "box.toml refused at " ++ field.bytes
+text_of (PlanRefused field) = codes "plan refused at " ++ field.bytes
+text_of Foreign = codes "flash is foreign"
+text_of (Nothing level) = []
+text_of (Incomplete chosen missing) = []
+text_of (BadModule id want found) = []
+text_of (Absent name) = name.bytes ++ codes " is absent"
 text_of ReadFault = codes "read failed"
 text_of WriteFault = codes "write failed"
+text_of FlashFault = codes "flash failed"
 text_of TooLong = codes "input too long"
 text_of NoMemory = codes "out of memory"
+text_of NoFit = codes "image does not fit"
+text_of Geometry = codes "flash has a wrong geometry"
+text_of ShelfFault = codes "file could not be read"
+text_of (BuildRefused fault) = refusal_text fault
 
--- the fact for one status
+-- ---- the fact for one status
+
 abbrev pub OnDone : Status → Type 0 → Type 0
 OnDone Done fact = fact
 OnDone other fact = Unit {0}
@@ -27,6 +61,34 @@ OnDone other fact = Unit {0}
 abbrev pub OnUsage : Status → Type 0 → Type 0
 OnUsage Usage fact = fact
 OnUsage other fact = Unit {0}
+
+abbrev pub OnBoxRefused : Status → (List ℕ → Type 0) → Type 0
+OnBoxRefused (BoxRefused field) fact = fact field.bytes
+OnBoxRefused other fact = Unit {0}
+
+abbrev pub OnPlanRefused : Status → (List ℕ → Type 0) → Type 0
+OnPlanRefused (PlanRefused field) fact = fact field.bytes
+OnPlanRefused other fact = Unit {0}
+
+abbrev pub OnForeign : Status → Type 0 → Type 0
+OnForeign Foreign fact = fact
+OnForeign other fact = Unit {0}
+
+abbrev pub OnNothing : Status → (Level → Type 0) → Type 0
+OnNothing (Nothing level) fact = fact level
+OnNothing other fact = Unit {0}
+
+abbrev pub OnIncomplete : Status → (Chosen → ℕ → Type 0) → Type 0
+OnIncomplete (Incomplete chosen missing) fact = fact chosen missing
+OnIncomplete other fact = Unit {0}
+
+abbrev pub OnBadModule : Status → (ℕ → ℕ → ℕ → Type 0) → Type 0
+OnBadModule (BadModule id want found) fact = fact id want found
+OnBadModule other fact = Unit {0}
+
+abbrev pub OnAbsent : Status → (List ℕ → Type 0) → Type 0
+OnAbsent (Absent name) fact = fact name.bytes
+OnAbsent other fact = Unit {0}
 
 abbrev pub OnReadFault : Status → Type 0 → Type 0
 OnReadFault ReadFault fact = fact
@@ -36,6 +98,10 @@ abbrev pub OnWriteFault : Status → Type 0 → Type 0
 OnWriteFault WriteFault fact = fact
 OnWriteFault other fact = Unit {0}
 
+abbrev pub OnFlashFault : Status → Type 0 → Type 0
+OnFlashFault FlashFault fact = fact
+OnFlashFault other fact = Unit {0}
+
 abbrev pub OnTooLong : Status → Type 0 → Type 0
 OnTooLong TooLong fact = fact
 OnTooLong other fact = Unit {0}
@@ -43,3 +109,19 @@ OnTooLong other fact = Unit {0}
 abbrev pub OnNoMemory : Status → Type 0 → Type 0
 OnNoMemory NoMemory fact = fact
 OnNoMemory other fact = Unit {0}
+
+abbrev pub OnNoFit : Status → Type 0 → Type 0
+OnNoFit NoFit fact = fact
+OnNoFit other fact = Unit {0}
+
+abbrev pub OnGeometry : Status → Type 0 → Type 0
+OnGeometry Geometry fact = fact
+OnGeometry other fact = Unit {0}
+
+abbrev pub OnShelfFault : Status → Type 0 → Type 0
+OnShelfFault ShelfFault fact = fact
+OnShelfFault other fact = Unit {0}
+
+abbrev pub OnBuildRefused : Status → (BuildFault → Type 0) → Type 0
+OnBuildRefused (BuildRefused fault) fact = fact fault
+OnBuildRefused other fact = Unit {0}

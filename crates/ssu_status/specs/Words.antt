@@ -1,28 +1,71 @@
 -- The words of the command line: a folder, a command and its arguments. A number is written in decimal digits, without
 -- a sign and without a leading zero but in 0.
-use Rattle.std.specs.Prelude.{◌≡◌, ℕ, ◌<◌, List, [], ◌∷◌, codes, decimal}
+use Rattle.std.specs.Prelude.{◌≡◌, ℕ, ◌<◌, ◌≤◌, List, [], ◌∷◌, IsTrue, codes, decimal}
+use Rattle.file_names.specs.FileName.{is_file_name}
 use Rattle.ssu_status.specs.declared.command.Command.{Command}
-use Rattle.ssu_status.specs.declared.command.Command.TheVariants.{Hear}
+use Rattle.ssu_status.specs.declared.command.Command.TheVariants.{Hear, Load, Find, Show, Build, Blank, Format, Boot}
+
+-- What the words ask for. A file is given by its name.
+pub data Task : Type 0 where
+  ToHear : ℕ → Task
+  ToLoad : ℕ → Task
+  ToFind : Task
+  ToShow : Task
+  ToBuild : Task
+  ToBlank : ℕ → Task
+  ToFormat : List ℕ → Task
+  ToBoot : Task
+
+abbrev pub task_of : Command → Task
+task_of (Hear pid) = ToHear pid
+task_of (Load pid) = ToLoad pid
+task_of Find = ToFind
+task_of Show = ToShow
+task_of Build = ToBuild
+task_of (Blank blocks) = ToBlank blocks
+task_of (Format name) = ToFormat name.bytes
+task_of Boot = ToBoot
 
 -- the words behind the folder
-abbrev pub words_of : Command → List (List ℕ)
-words_of (Hear pid) = codes "hear" ∷ decimal pid ∷ []
+abbrev pub words_of : Task → List (List ℕ)
+words_of (ToHear pid) = codes "hear" ∷ decimal pid ∷ []
+words_of (ToLoad pid) = codes "load" ∷ decimal pid ∷ []
+words_of ToFind = codes "find" ∷ []
+words_of ToShow = codes "show" ∷ []
+words_of ToBuild = codes "build" ∷ []
+words_of (ToBlank blocks) = codes "blank" ∷ decimal blocks ∷ []
+words_of (ToFormat name) = codes "format" ∷ name ∷ []
+words_of ToBoot = codes "boot" ∷ []
 
--- the numbers of the command are in their ranges
-abbrev pub IsInRange : Command → Type 0
-IsInRange (Hear pid) = pid < 8192
+-- PIDs are below 8192, a flash has 4 to 65,536 blocks, and the name of a file has its form.
+abbrev pub IsInRange : Task → Type 0
+IsInRange (ToHear pid) = pid < 8192
+IsInRange (ToLoad pid) = pid < 8192
+IsInRange ToFind = Unit {0}
+IsInRange ToShow = Unit {0}
+IsInRange ToBuild = Unit {0}
+IsInRange (ToBlank blocks) = (4 ≤ blocks) × (blocks ≤ 65536)
+IsInRange (ToFormat name) = IsTrue (is_file_name name)
+IsInRange ToBoot = Unit {0}
 
--- the words are a folder and this command
-pub record IsCommandLine (words : List (List ℕ)) (command : Command) : Type 0 where
+-- the words are a folder and what asks for this
+pub record IsCommandLine (words : List (List ℕ)) (task : Task) : Type 0 where
   pub folder : List ℕ
-  pub spelled : words ≡ folder ∷ words_of command
-  pub in_range : IsInRange command
+  pub spelled : words ≡ folder ∷ words_of task
+  pub in_range : IsInRange task
 
--- the name of the file that the command makes in the folder, or nothing where it makes none
-abbrev pub file_made_by : Command → List ℕ
-file_made_by (Hear pid) = []
+-- the name of the file that is made in the folder, or nothing where none is made
+abbrev pub file_made_by : Task → List ℕ
+file_made_by (ToHear pid) = []
+file_made_by (ToLoad pid) = codes "group.bin"
+file_made_by ToFind = []
+file_made_by ToShow = []
+file_made_by ToBuild = codes "air.ts"
+file_made_by (ToBlank blocks) = codes "flash.bin"
+file_made_by (ToFormat name) = []
+file_made_by ToBoot = codes "image.bin"
 
 -- the words are a command line that makes this file, or they make none
 pub record MakesFile (words : List (List ℕ)) (name : List ℕ) : Type 0 where
-  pub made : (command : Command) → IsCommandLine words command → name ≡ file_made_by command
-  pub none : ((command : Command) → IsCommandLine words command → ⊥) → name ≡ []
+  pub made : (task : Task) → IsCommandLine words task → name ≡ file_made_by task
+  pub none : ((task : Task) → IsCommandLine words task → ⊥) → name ≡ []

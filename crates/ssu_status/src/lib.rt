@@ -7,5 +7,7 @@ mod status;
 #[cfg(test)]
 mod tests;
 
-pub use command::{Command, FileName, made_file};
-pub use status::Status;
+pub use command::{Command, made_file};
+pub use ssu_answer::{BuildFault, Chosen, FileName, Level};
+pub use status::{Status, Text};
+pub use toml_fields::FieldName;

@@ -1,2 +1,0 @@
-pub mod HearLemmas
-pub mod StatusLemmas

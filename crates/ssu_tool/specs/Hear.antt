@@ -1,46 +1,24 @@
--- What `hear` puts out: the right whole sections of one PID, joined.
-use Rattle.std.specs.Prelude.{◌≡◌, ℕ, ◌+◌, ◌*◌, ◌≤◌, List, length, Option}
-use Rattle.ssu_io.specs.Bytes.{Takes, Gains, GainsPrefix}
-use Rattle.ts_input.specs.Packets.{packets}
-use Rattle.ts_section.specs.Events.{hear}
+-- What `hear PID` does.
+use Rattle.std.specs.Prelude.{ℕ, ◌≡◌, ◌≤◌}
+use Rattle.packet_text.specs.Puts.{Puts, PutsOfMost, PutsPrefix}
+use Rattle.ssu_io.specs.Faults.{Rose}
+use Rattle.ssu_status.specs.Status.{OnDone, OnReadFault, OnWriteFault, OnTooLong, OnNoMemory}
+use Rattle.tool_hear.specs.Hear.{IsAnswer, IsUnfailed}
+use Rattle.ts_input.specs.Packets.{IsAtEnd}
+use Rattle.ts_section.specs.Events.{hear as hear_text}
 use Rattle.ssu_status.specs.declared.status.Status.{Status}
-use Rattle.ssu_status.specs.declared.status.Status.TheVariants.{Done, ReadFault, TooLong, NoMemory}
+use Rattle.ssu_tool.specs.Seen.{SinkSeen, SourceSeen}
 
--- The bytes of the greatest number of packets.
-abbrev pub most_bytes : ℕ
-most_bytes = 188 * 16777216
-
--- These bytes were taken from the input, and the output got the sections that are heard in their packets.
-pub record PutsHeard (pid : ℕ) (left left_after got got_after : Option (List ℕ)) : Type 0 where
-  pub taken : List ℕ
-  pub takes : Takes left left_after taken
-  pub puts : Gains got got_after (hear pid (packets taken))
-  pub within : length taken ≤ most_bytes
-
--- The same, where one byte behind the greatest number of packets was taken.
-pub record PutsHeardOfMost (pid : ℕ) (left left_after got got_after : Option (List ℕ)) : Type 0 where
-  pub taken : List ℕ
-  pub takes : Takes left left_after taken
-  pub puts : Gains got got_after (hear pid (packets taken))
-  pub one_more : length taken ≡ most_bytes + 1
-
--- The output got only a prefix of them.
-pub record PutsPrefix (pid : ℕ) (left left_after got got_after : Option (List ℕ)) : Type 0 where
-  pub taken : List ℕ
-  pub takes : Takes left left_after taken
-  pub puts : GainsPrefix got got_after (hear pid (packets taken))
-  pub within : length taken ≤ most_bytes
-
--- How the input ended: these statuses and no others.
-abbrev pub IsEndOfInput : Status → Type 0
-IsEndOfInput Done = Unit {0}
-IsEndOfInput ReadFault = Unit {0}
-IsEndOfInput TooLong = Unit {0}
-IsEndOfInput other = ⊥
-
--- The status comes of no fault of an object, and not of wrong words.
-abbrev pub IsUnfailed : Status → Type 0
-IsUnfailed Done = Unit {0}
-IsUnfailed TooLong = Unit {0}
-IsUnfailed NoMemory = Unit {0}
-IsUnfailed other = ⊥
+pub record HearDoes {A T : Type 0} (pid : ℕ) (result : Status) (air : SourceSeen A) (out : SinkSeen T) : Type 0 where
+  pub done : OnDone result (Puts (hear_text pid) (air.left air.old) (air.left air.new) (out.contents out.old) (out.contents out.new))
+  pub end : OnDone result (IsAtEnd (air.left air.new))
+  pub read_fault : OnReadFault result (Puts (hear_text pid) (air.left air.old) (air.left air.new) (out.contents out.old) (out.contents out.new))
+  pub read_cause : OnReadFault result (Rose (air.faults air.old) (air.faults air.new))
+  pub too_long : OnTooLong result (PutsOfMost (hear_text pid) (air.left air.old) (air.left air.new) (out.contents out.old) (out.contents out.new))
+  pub write_fault : OnWriteFault result (PutsPrefix (hear_text pid) (air.left air.old) (air.left air.new) (out.contents out.old) (out.contents out.new))
+  pub write_cause : OnWriteFault result (Rose (out.faults out.old) (out.faults out.new))
+  pub no_memory : OnNoMemory result (air.new ≡ air.old × (out.new ≡ out.old))
+  pub answer : IsAnswer result
+  pub complete : (Rose (air.faults air.old) (air.faults air.new) → ⊥) → (Rose (out.faults out.old) (out.faults out.new) → ⊥) → IsUnfailed result
+  pub air_later : air.faults air.old ≤ air.faults air.new
+  pub out_later : out.faults out.old ≤ out.faults out.new

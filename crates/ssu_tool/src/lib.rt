@@ -1,7 +1,6 @@
-//! The commands of the program, over any source and sinks.
+//! The top call of the program, over any shelf, source, flash and sinks.
 #![tactic(auto)]
 
-mod hear;
 #[cfg(test)]
 mod tests;
 mod top;

@@ -1,5 +1,7 @@
 use crate::run;
+use flash_dev::{Flash, SureFlash};
 use ssu_io::{MemSink, MemSource};
+use ssu_shelf::MemShelf;
 use ssu_status::Status;
 use std::alloc::{AllocError, Global};
 use std::test::Fail;
@@ -48,11 +50,35 @@ fn outcome_of(
     fails: &[u32],
     sink_fails: &[u32],
 ) -> Result<Outcome, AllocError> {
+    let mut shelf = MemShelf::new(alloc, Vec::new(alloc));
+    let mut flash = SureFlash::blank(alloc, 4, 256).map_err(|_| AllocError)?;
     let words = owned(alloc, words)?;
     let mut air = MemSource::new(air, 1000, fails.to_vec(alloc)?);
     let mut made = MemSink::new(alloc, Vec::new(alloc));
     let mut out = MemSink::new(alloc, sink_fails.to_vec(alloc)?);
-    let status = run(alloc, &words, &mut air, &mut made, &mut out);
+    let status = run(
+        alloc, &words, &mut shelf, &mut air, &mut flash, &mut made, &mut out,
+    );
+    Ok(Outcome {
+        status,
+        put: out.into_bytes(),
+        made: made.into_bytes(),
+    })
+}
+
+/// A command over the files of a shelf and a flash.
+fn outcome_on<F: Flash>(
+    alloc: Global,
+    words: &[&str],
+    shelf: &mut MemShelf,
+    air: Vec<u8>,
+    flash: &mut F,
+) -> Result<Outcome, AllocError> {
+    let words = owned(alloc, words)?;
+    let mut air = MemSource::new(air, 65_536, Vec::new(alloc));
+    let mut made = MemSink::new(alloc, Vec::new(alloc));
+    let mut out = MemSink::new(alloc, Vec::new(alloc));
+    let status = run(alloc, &words, shelf, &mut air, flash, &mut made, &mut out);
     Ok(Outcome {
         status,
         put: out.into_bytes(),
@@ -164,5 +190,207 @@ fn a_pat_is_heard_unless_a_bit_of_it_changed(rt: HostRuntime) -> Result<(), Fail
         assert_eq!(rt; heard.status, Status::Done);
         assert!(rt; heard.put.is_empty(), "place {place}");
     }
+    Ok(())
+}
+
+const BOX: &str = "oui = 4660
+model = 7
+version = 1
+rule = \"newer\"
+software_model = 1
+software_version = 1
+";
+
+const PLAN: &str = "ts = 1
+network = 2
+service = 3
+oui = 4660
+time = \"2024-03-01T02:00:00\"
+pmt_pid = 256
+data_pid = 258
+turns = 40
+[[group]]
+model = 7
+version = 1
+software_model = 1
+software_version = 2
+modules = [\"a.bin\"]
+";
+
+const FOUND: &str = "1 services 1
+2 program 3 pid 256
+3 component 258 type 1
+4 direct
+5 carousel 258
+6 groups 1
+7 modules 1 bytes 9
+";
+
+fn shelf_with(alloc: Global, plan: &str) -> Result<MemShelf, Fail> {
+    let mut shelf = MemShelf::new(alloc, Vec::new(alloc));
+    for (name, text) in [
+        ("box.toml", BOX),
+        ("plan.toml", plan),
+        ("a.bin", "123456789"),
+    ] {
+        shelf.add(name, text.as_bytes().to_vec(alloc)?)?;
+    }
+    Ok(shelf)
+}
+
+#[test]
+fn a_built_stream_is_found_and_loaded(rt: HostRuntime) -> Result<(), Fail> {
+    let alloc = rt.alloc();
+    let mut shelf = shelf_with(alloc, PLAN)?;
+    let mut flash = SureFlash::blank(alloc, 4, 256)?;
+    let none = Vec::new(alloc);
+    let built = outcome_on(alloc, &["folder", "build"], &mut shelf, none, &mut flash)?;
+    assert_eq!(rt; built.status, Status::Done);
+    assert_eq!(rt; built.put.as_slice(), "sections 7 packets 40\n".as_bytes());
+    assert_eq!(rt; built.made.len(), 40 * 188usize);
+    let air = built.made.clone()?;
+    let found = outcome_on(alloc, &["folder", "find"], &mut shelf, air, &mut flash)?;
+    assert_eq!(rt; found.status, Status::Done);
+    assert_eq!(rt; found.put.as_slice(), FOUND.as_bytes());
+    let words = ["folder", "load", "258"];
+    let loaded = outcome_on(alloc, &words, &mut shelf, built.made, &mut flash)?;
+    assert_eq!(rt; loaded.status, Status::Done);
+    assert_eq!(rt;
+        loaded.put.as_slice(),
+        "loaded group 2147483650 bytes 9\n".as_bytes()
+    );
+    assert_eq!(rt; loaded.made.as_slice(), "123456789".as_bytes());
+    Ok(())
+}
+
+const NOTICE: &str = "ts = 1
+network = 2
+service = 3
+oui = 4660
+time = \"2024-03-05T02:00:00\"
+pmt_pid = 256
+data_pid = 258
+notice_pid = 257
+turns = 8
+[schedule]
+start = \"2024-03-01T01:00:00\"
+end = \"2024-04-01T01:00:00\"
+period_hours = 24
+duration_hours = 2
+[[group]]
+model = 7
+version = 1
+software_model = 1
+software_version = 2
+modules = [\"a.bin\"]
+";
+
+const NONE: &str = "1 none
+2 none
+3 none
+4 none
+5 none
+6 none
+7 none
+";
+
+#[test]
+fn a_level_ends_where_its_section_is_left_out(rt: HostRuntime) -> Result<(), Fail> {
+    let alloc = rt.alloc();
+    let mut shelf = shelf_with(alloc, NOTICE)?;
+    let mut flash = SureFlash::blank(alloc, 4, 256)?;
+    let none = Vec::new(alloc);
+    let built = outcome_on(alloc, &["folder", "build"], &mut shelf, none, &mut flash)?;
+    assert_eq!(rt; built.put.as_slice(), "sections 8 packets 8\n".as_bytes());
+    assert_eq!(rt; built.made.len(), 8 * 188usize);
+    // The packet that is left out (NIT, PAT, TDT, PMT, UNT, DSI, DII), and the levels that are found then.
+    let rows = [
+        (0usize, 0usize),
+        (1, 1),
+        (3, 2),
+        (4, 3),
+        (2, 4),
+        (5, 5),
+        (6, 6),
+        (7, 7),
+    ];
+    for (left_out, levels) in rows {
+        let mut air = built.made[..188 * left_out].to_vec(alloc)?;
+        air.extend_from_slice(&built.made[188 * left_out + 188..])?;
+        let found = outcome_on(alloc, &["folder", "find"], &mut shelf, air, &mut flash)?;
+        assert_eq!(rt; found.status, Status::Done);
+        assert!(rt;
+            found.put.ends_with(&NONE.as_bytes()[7 * levels..]),
+            "without {left_out}"
+        );
+        if levels > 0 {
+            let more = &NONE.as_bytes()[7 * levels - 7..];
+            assert!(rt; !found.put.ends_with(more), "without {left_out}");
+        }
+    }
+    Ok(())
+}
+
+#[test]
+fn a_formatted_flash_is_booted(rt: HostRuntime) -> Result<(), Fail> {
+    let alloc = rt.alloc();
+    let mut shelf = shelf_with(alloc, PLAN)?;
+    let mut flash = SureFlash::blank(alloc, 4, 4096)?;
+    let none = Vec::new(alloc);
+    let blank = outcome_on(
+        alloc,
+        &["folder", "blank", "4"],
+        &mut shelf,
+        none,
+        &mut flash,
+    )?;
+    assert_eq!(rt; blank.put.as_slice(), "blank 4\n".as_bytes());
+    assert_eq!(rt; blank.made.len(), 4 * 4096usize);
+    assert_eq!(rt; blank.made.as_slice(), flash.contents());
+    let none = Vec::new(alloc);
+    let foreign = outcome_on(alloc, &["folder", "boot"], &mut shelf, none, &mut flash)?;
+    assert_eq!(rt; foreign.status, Status::Foreign);
+    let words = ["folder", "format", "a.bin"];
+    let none = Vec::new(alloc);
+    let formatted = outcome_on(alloc, &words, &mut shelf, none, &mut flash)?;
+    assert_eq!(rt; formatted.put.as_slice(), "formatted bytes 9\n".as_bytes());
+    let none = Vec::new(alloc);
+    let booted = outcome_on(alloc, &["folder", "boot"], &mut shelf, none, &mut flash)?;
+    assert_eq!(rt; booted.made.as_slice(), "123456789".as_bytes());
+    let line = "boot bank 0 number 1 software 1.1 bytes 9\n".as_bytes();
+    assert_eq!(rt; booted.put.as_slice(), line);
+    Ok(())
+}
+
+#[test]
+fn the_first_sixteen_of_seventeen_services_are_kept(rt: HostRuntime) -> Result<(), Fail> {
+    let alloc = rt.alloc();
+    // A first loop of 17 linkages of type 0x09 for the OUI 4660, and no entry.
+    let mut body = [0xF0, 238].to_vec(alloc)?;
+    for service in 1..18u8 {
+        body.extend_from_slice(&[
+            0x4A, 12, 0, 1, 0, 2, 0, service, 0x09, 4, 0x00, 0x12, 0x34, 0,
+        ])?;
+    }
+    body.extend_from_slice(&[0xF0, 0])?;
+    assert_eq!(rt; body.len(), 242);
+    let head = LongForm {
+        table: 0x40,
+        extension: 2,
+        version: 0,
+        number: 0,
+        last: 0,
+        body: &body,
+    };
+    let section = long_section(alloc, head, true)?;
+    assert_eq!(rt; section.len(), 254);
+    assert_eq!(rt; section[0], 0x40);
+    let mut air = Vec::new(alloc);
+    let _counter = cut(&section, Pid::new(0x10).ok_or("a PID")?, 0, &mut air)?;
+    let mut shelf = shelf_with(alloc, PLAN)?;
+    let mut flash = SureFlash::blank(alloc, 4, 256)?;
+    let found = outcome_on(alloc, &["folder", "find"], &mut shelf, air, &mut flash)?;
+    assert_eq!(rt; found.status, Status::Done);
+    assert!(rt; found.put.starts_with("1 services 16\n2 none\n".as_bytes()));
     Ok(())
 }

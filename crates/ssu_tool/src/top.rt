@@ -1,65 +1,101 @@
 //! The top call: what the words ask for.
-ghost use Rattle.std.specs.Prelude.{◌≡◌, ◌≤◌, ℕ, map, string_bytes};
-ghost use Rattle.ssu_io.specs.Faults.{Rose};
-ghost use Rattle.ssu_status.specs.declared.command.Command.{Command};
-ghost use Rattle.ssu_status.specs.declared.command.Command.TheVariants.{Hear};
-ghost use Rattle.ssu_status.specs.Status.{OnDone, OnUsage, OnReadFault, OnWriteFault, OnTooLong, OnNoMemory};
-ghost use Rattle.ssu_status.specs.Words.{IsCommandLine};
-ghost use Rattle.ssu_tool.specs.Hear.{IsUnfailed, PutsHeard, PutsHeardOfMost, PutsPrefix};
-ghost use Rattle.ts_input.specs.Packets.{IsAtEnd};
+ghost use Rattle.std.specs.Prelude.{◌≡◌, map, string_bytes};
+ghost use Rattle.ssu_status.specs.Status.{OnUsage};
+ghost use Rattle.ssu_status.specs.Words.{IsCommandLine, Task, task_of};
+ghost use Rattle.ssu_status.specs.declared.status.Status.TheVariants.{Usage};
+ghost use Rattle.ssu_tool.specs.Does.{Does};
 
-use crate::hear::hear;
+use flash_dev::Flash;
 use ssu_io::{Sink, Source};
+use ssu_shelf::Shelf;
 use ssu_status::{Command, Status};
 use std::alloc::Global;
-use ts_packet::Pid;
+use tool_build::build;
+use tool_find::{find, show};
+use tool_flash::{blank, boot, format};
+use tool_hear::hear;
+use tool_load::load;
 
-/// Does what the words ask for: `hear PID` puts the right whole sections of the PID into `out`.
-pub fn run<A: Source, W: Sink, T: Sink>(
+/// Does what the words ask for, with the files of `shelf`, the packets of `air` and the flash. What a command makes goes into
+/// `made`, and what it prints into `out`.
+pub fn run<H: Shelf, A: Source, F: Flash, W: Sink, T: Sink>(
     alloc: Global,
     words: &[String],
+    shelf: &mut H,
     air: &mut A,
+    flash: &mut F,
     made: &mut W,
     out: &mut T,
 ) -> Status
     // The words are no command line.
-    ensures usage { OnUsage result ((c : Command) → IsCommandLine (map string_bytes words.now) c → ⊥) }
-    ensures right_words { ((c : Command) → IsCommandLine (map string_bytes words.now) c → ⊥) → result ≡ Status.Usage }
+    ensures usage { OnUsage result ((task : Task) → IsCommandLine (map string_bytes words.now) task → ⊥) }
+    ensures wrong_words { ((task : Task) → IsCommandLine (map string_bytes words.now) task → ⊥) → result ≡ Usage }
+    ensures usage_shelf { OnUsage result (shelf.new ≡ shelf.old) }
     ensures usage_air { OnUsage result (air.new ≡ air.old) }
+    ensures usage_flash { OnUsage result (flash.new ≡ flash.old) }
+    ensures usage_made { OnUsage result (made.new ≡ made.old) }
     ensures usage_out { OnUsage result (out.new ≡ out.old) }
-    ensures no_made { made.new ≡ made.old }
 
-    // `hear PID`
-    ensures hear_done { (pid : ℕ) → IsCommandLine (map string_bytes words.now) (Hear pid)
-        → OnDone result (PutsHeard pid (A.left air.old) (A.left air.new) (T.contents out.old) (T.contents out.new)) }
-    ensures hear_end { (pid : ℕ) → IsCommandLine (map string_bytes words.now) (Hear pid)
-        → OnDone result (IsAtEnd (A.left air.new)) }
-    ensures hear_read_fault { (pid : ℕ) → IsCommandLine (map string_bytes words.now) (Hear pid)
-        → OnReadFault result (PutsHeard pid (A.left air.old) (A.left air.new) (T.contents out.old) (T.contents out.new)) }
-    ensures hear_too_long { (pid : ℕ) → IsCommandLine (map string_bytes words.now) (Hear pid)
-        → OnTooLong result (PutsHeardOfMost pid (A.left air.old) (A.left air.new) (T.contents out.old) (T.contents out.new)) }
-    ensures hear_write_fault { (pid : ℕ) → IsCommandLine (map string_bytes words.now) (Hear pid)
-        → OnWriteFault result (PutsPrefix pid (A.left air.old) (A.left air.new) (T.contents out.old) (T.contents out.new)) }
-
-    // Why it failed.
-    ensures read_cause { OnReadFault result (Rose (A.faults air.old) (A.faults air.new)) }
-    ensures write_cause { OnWriteFault result (Rose (T.faults out.old) (T.faults out.new)) }
-    ensures complete { (pid : ℕ) → IsCommandLine (map string_bytes words.now) (Hear pid)
-        → (Rose (A.faults air.old) (A.faults air.new) → ⊥) → (Rose (T.faults out.old) (T.faults out.new) → ⊥) → IsUnfailed result }
-    ensures no_memory_air { OnNoMemory result (air.new ≡ air.old) }
-    ensures no_memory_out { OnNoMemory result (out.new ≡ out.old) }
-    ensures air_later { A.faults air.old ≤ A.faults air.new }
-    ensures out_later { T.faults out.old ≤ T.faults out.new }
+    // What they ask for is done.
+    ensures does { (task : Task) → IsCommandLine (map string_bytes words.now) task → Does task result
+        (record { held = H.held; faults = H.faults; absences = H.absences; old = shelf.old; new = shelf.new })
+        (record { left = A.left; faults = A.faults; old = air.old; new = air.new })
+        (record {
+          tells = F.tells;
+          contents = F.contents;
+          block_count = F.block_count;
+          block_len = F.block_len;
+          moment = F.moment;
+          left_since = F.left_since;
+          faults = F.faults;
+          old = flash.old;
+          new = flash.new;
+        })
+        (record { contents = W.contents; faults = W.faults; old = made.old; new = made.new })
+        (record { contents = T.contents; faults = T.faults; old = out.old; new = out.new }) }
 {
     let Some(command) = Command::parse(words) else {
         return Status::Usage;
     };
-    hear(alloc, pid_of(command), air, out)
+    dispatch(alloc, command, shelf, air, flash, made, out)
 }
 
-fn pid_of(command: Command) -> Pid
-    ensures { command ≡ Hear result }
+/// Does what the command asks for.
+fn dispatch<H: Shelf, A: Source, F: Flash, W: Sink, T: Sink>(
+    alloc: Global,
+    command: Command,
+    shelf: &mut H,
+    air: &mut A,
+    flash: &mut F,
+    made: &mut W,
+    out: &mut T,
+) -> Status
+    ensures no_usage { OnUsage result ⊥ }
+    ensures does { Does (task_of command) result
+        (record { held = H.held; faults = H.faults; absences = H.absences; old = shelf.old; new = shelf.new })
+        (record { left = A.left; faults = A.faults; old = air.old; new = air.new })
+        (record {
+          tells = F.tells;
+          contents = F.contents;
+          block_count = F.block_count;
+          block_len = F.block_len;
+          moment = F.moment;
+          left_since = F.left_since;
+          faults = F.faults;
+          old = flash.old;
+          new = flash.new;
+        })
+        (record { contents = W.contents; faults = W.faults; old = made.old; new = made.new })
+        (record { contents = T.contents; faults = T.faults; old = out.old; new = out.new }) }
 {
-    let Command::Hear(pid) = command;
-    pid
+    match command {
+        Command::Hear(pid) => hear(alloc, pid, air, out),
+        Command::Load(pid) => load(alloc, pid, air, made, out),
+        Command::Find => find(alloc, shelf, air, out),
+        Command::Show => show(alloc, shelf, air, out),
+        Command::Build => build(alloc, shelf, made, out),
+        Command::Blank(blocks) => blank(blocks, made, out),
+        Command::Format(name) => format(alloc, &name, shelf, flash, out),
+        Command::Boot => boot(flash, made, out),
+    }
 }

@@ -61,10 +61,11 @@ impl SectionOut {
         self.used == 0
     }
 
-    /// The bytes of section `k`.
+    /// The bytes of section `k`, 4,096 at most.
     pub fn get(&self, k: usize) -> &[u8]
         requires { k < length self.now }
-        ensures { slice_get self.now k ≡ Some result.now }
+        ensures bytes { slice_get self.now k ≡ Some result.now }
+        ensures most { length result.now ≤ 4096 }
     {
         self.slots[k].as_slice()
     }

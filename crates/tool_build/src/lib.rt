@@ -1,0 +1,10 @@
+//! `build`: the packets of the plan in `plan.toml`.
+#![tactic(auto)]
+
+mod building;
+mod images;
+mod plan_text;
+#[cfg(test)]
+mod tests;
+
+pub use building::build;

@@ -1,0 +1,4 @@
+mod Following
+mod Fronts
+mod Pieces
+mod Printing

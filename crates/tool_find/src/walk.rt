@@ -1,0 +1,116 @@
+//! A box that hears the packets of an input.
+ghost use Rattle.std.specs.Prelude.{◌≡◌, ◌==◌, ℕ, List, [], ◌∷◌, IfOk, IsTrue};
+ghost use Rattle.std.specs.List.{list_any};
+ghost use Rattle.ts_packet.specs.Packet.{pid_of};
+ghost use Rattle.ts_section.specs.Events.{Event, Heard, Listen, Feed, heard, is_among, is_listened};
+ghost use Rattle.ts_section.specs.Hearing.{Hears};
+ghost use Rattle.route_tables.specs.Values.{Receiver};
+ghost use Rattle.ssu_route.specs.Queries.{followed, heard_by, report as report_of};
+ghost use Rattle.ssu_route.specs.Route.{Stands};
+ghost use Rattle.tool_find.specs.Heard.{after_all};
+ghost use Rattle.tool_find.specs.Lines.{receiver_of};
+
+use box_file::BoxFile;
+use ssu_compat::SwId;
+use ssu_io::NoMemory;
+use ssu_route::{Report, Route};
+use std::alloc::Global;
+use ts_packet::{Packet, Pid};
+use ts_section::{Hearer, PidSet, SectionOut};
+
+/// The greatest image that is asked for: 128 MiB.
+const BANK_LEN: u32 = 134_217_728;
+
+/// A box on the way to an update.
+#[derive(Drop)]
+pub(crate) struct Walk {
+    pub(crate) hearer: Hearer,
+    pub(crate) each: SectionOut,
+    pub(crate) route: Route,
+    pub(crate) pids: PidSet,
+    pub(crate) running: SwId,
+}
+
+impl Walk {
+    ghost use Rattle.tool_find.specs.Ways.{Walks};
+
+    /// The box of the file, before the first packet. All its memory is taken here.
+    pub(crate) fn new(alloc: Global, file: &BoxFile) -> Result<Walk, NoMemory>
+        ensures stands { IfOk result (λ walk. Walks (receiver_of file.now) walk []) }
+    {
+        let mut hearer = Hearer::new(alloc)?;
+        let each = SectionOut::new(alloc)?;
+        let route = Route::new(file, BANK_LEN);
+        let pids = route.listens();
+        hearer.listen(&pids);
+        Ok(Walk {
+            hearer,
+            each,
+            route,
+            pids,
+            running: file.software,
+        })
+    }
+
+    /// Takes the next packet. The sections that become complete in it stand in `each`.
+    pub(crate) fn take(&mut self, packet: &Packet)
+        ensures stands { (me : Receiver) (ps : List (List ℕ)) → Walks me self.old ps → Walks me self.new (packet.now ∷ ps) }
+        ensures heard { (me : Receiver) (ps : List (List ℕ)) → Walks me self.old ps → self.new.each ≡ heard (Feed packet.now ∷ followed me ps) }
+    {
+        self.hearer.feed(packet, &mut self.each);
+        hear_each(&mut self.route, &self.each, pid_in(packet), self.running);
+        let pids = self.route.listens();
+        follow(&mut self.hearer, &mut self.pids, pids);
+    }
+
+    /// What is known at each level.
+    pub(crate) fn report(&self) -> Report
+        ensures { (me : Receiver) (ps : List (List ℕ)) → Walks me self.now ps → result ≡ report_of me (heard_by me ps) }
+    {
+        self.route.report()
+    }
+}
+
+/// The PID that a packet names.
+pub(crate) fn pid_in(packet: &Packet) -> Pid
+    ensures { result ≡ pid_of packet.now }
+{
+    Pid::new(packet[1] as u16 % 32 * 256 + packet[2] as u16).unwrap_or_default()
+}
+
+/// The route hears the sections in their order.
+fn hear_each(route: &mut Route, each: &SectionOut, pid: Pid, running: SwId)
+    ensures { (me : Receiver) (heard : List Heard) → me.running ≡ running → Stands me heard route.old
+        → Stands me (after_all pid each.now heard) route.new }
+{
+    for k in 0..each.len() {
+        let _change = route.hear(pid, each.get(k), running);
+    }
+}
+
+/// Listens to these PIDs from now on, where they are others than before.
+fn follow(hearer: &mut Hearer, pids: &mut PidSet, now: PidSet)
+    ensures hears { (events : List Event) → ((pid : ℕ) → is_listened pid events ≡ is_among pid pids.old.items)
+        → Hears hearer.old events → Hears hearer.new (Listen now.items ∷ events) }
+    ensures kept { pids.new.items ≡ now.items }
+{
+    if are_same(pids, &now) {
+        return;
+    }
+    hearer.listen(&now);
+    *pids = now;
+}
+
+fn are_same(one: &[Pid], other: &[Pid]) -> bool
+    ensures { IsTrue result → one.now ≡ other.now }
+{
+    if one.len() != other.len() {
+        return false;
+    }
+    for k in 0..one.len() {
+        if one[k].get() != other[k].get() {
+            return false;
+        }
+    }
+    true
+}

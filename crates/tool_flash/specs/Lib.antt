@@ -1,0 +1,4 @@
+pub mod Answers
+pub mod Blank
+pub mod Boots
+pub mod Formatting

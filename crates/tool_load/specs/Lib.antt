@@ -1,0 +1,10 @@
+pub mod Later
+pub mod Load
+pub mod Blocks
+pub mod Progress
+pub mod Packets
+pub mod Ended
+pub mod Wrong
+pub mod Printed
+pub mod Failing
+pub mod Told

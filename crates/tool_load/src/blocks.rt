@@ -1,0 +1,52 @@
+//! The blocks of a group that was chosen.
+
+ghost use Rattle.std.specs.Prelude.{◌≡◌, ◌∷◌, [], ℕ, List, IfOk, IfSome, IfNone, None, Some, MatchOption, length};
+ghost use Rattle.group_image.specs.Image.{missing_in, image_of};
+ghost use Rattle.ssu_group.specs.Carried.{wrong_module, module_bytes};
+ghost use Rattle.ssu_group.specs.declared.module_plan.ModulePlan.{ModulePlan};
+ghost use Rattle.ts_crc.specs.Crc.{crc_of};
+ghost use Rattle.group_image.specs.Image.{IsFor};
+
+use crate::reading::ddb_of;
+use group_image::GroupImage;
+use ssu_group::GroupPlan;
+use ssu_io::NoMemory;
+use std::alloc::Global;
+
+/// A group that was chosen, its plan, and its image with the blocks that were heard since.
+#[derive(Drop)]
+pub(crate) struct Blocks {
+    pub(crate) group: u32,
+    pub(crate) plan: GroupPlan,
+    pub(crate) image: GroupImage,
+    ghost is_for: { IsFor plan image },
+}
+
+impl Blocks {
+    ghost use Rattle.tool_load.specs.Blocks.{Holds};
+
+    /// The group of this plan, without a block. All its space is taken here.
+    pub(crate) fn new(alloc: Global, group: u32, plan: GroupPlan) -> Result<Blocks, NoMemory>
+        ensures group { IfOk result (λ blocks. blocks.group ≡ group) }
+        ensures plan { IfOk result (λ blocks. blocks.plan ≡ plan) }
+        ensures none { IfOk result (λ blocks. Holds blocks.plan blocks.image []) }
+    {
+        let image = GroupImage::new(alloc, &plan)?;
+        Ok(Blocks { group, plan, image })
+    }
+
+    /// Takes the block that the section is, if it fills a place that is missing.
+    pub(crate) fn take(&mut self, section: &[u8])
+        ensures group { self.new.group ≡ self.old.group }
+        ensures plan { self.new.plan ≡ self.old.plan }
+        ensures holds { (window : List (List ℕ)) → Holds self.old.plan self.old.image window
+            → Holds self.new.plan self.new.image (section.now ∷ window) }
+    {
+        let Some(ddb) = ddb_of(section) else {
+            return;
+        };
+        if let Some(place) = self.plan.place(&ddb) {
+            self.image.offer(place, ddb.bytes);
+        }
+    }
+}

@@ -1,0 +1,20 @@
+//! The command `load`: one group out of a carousel, without a flash.
+#![tactic(auto)]
+
+mod answer;
+mod blocks;
+mod collect;
+mod command;
+mod deciding;
+mod laws;
+mod progress;
+mod put;
+mod reading;
+#[cfg(test)]
+mod tests;
+mod verdict;
+mod wrong;
+
+pub use command::load;
+pub use laws::{first_with_later_steps, verdict_stays};
+pub use verdict::Verdict;
