@@ -1,0 +1,68 @@
+#!/usr/bin/env python3
+"""Times the commands of `ssu` on a night's update of 4 MB in three files, sent in 4,000 turns (a stream of 14 MB).
+
+It makes the folder bench/out/commands, builds the stream, and prints for each command the least processor time of twenty
+runs, in milliseconds, and its ratio to `hear` on the carousel's PID. usage: bench/commands.py
+"""
+import os
+import resource
+import subprocess
+
+TOP = os.path.dirname(os.path.dirname(os.path.abspath(__file__)))
+FOLDER = os.path.join(TOP, "bench", "out", "commands")
+PLAN = '''ts = 1
+network = 2
+bouquet = 9
+service = 3
+oui = 4660
+time = "2024-03-05T02:00:00"
+pmt_pid = 256
+notice_pid = 257
+data_pid = 258
+turns = 4000
+[schedule]
+start = "2024-03-01T01:00:00"
+end = "2024-04-01T01:00:00"
+period_hours = 24
+duration_hours = 2
+[[group]]
+model = 7
+version = 1
+software_model = 1
+software_version = 8
+modules = ["a.bin", "b.bin", "c.bin"]
+'''
+BOX = '''oui = 4660
+model = 7
+version = 1
+rule = "newer"
+software_model = 1
+software_version = 7
+'''
+
+
+def least_time(words):
+    """The least processor time of twenty runs, in milliseconds."""
+    times = []
+    for _ in range(20):
+        before = resource.getrusage(resource.RUSAGE_CHILDREN)
+        subprocess.run([os.path.join(TOP, "ssu"), FOLDER] + words, stdout=subprocess.DEVNULL, check=True)
+        after = resource.getrusage(resource.RUSAGE_CHILDREN)
+        times.append(after.ru_utime + after.ru_stime - before.ru_utime - before.ru_stime)
+    return 1000 * min(times)
+
+
+os.makedirs(FOLDER, exist_ok=True)
+for k, (name, length) in enumerate([("a.bin", 2000000), ("b.bin", 2000000), ("c.bin", 194304)]):
+    with open(os.path.join(FOLDER, name), "wb") as file:
+        file.write(bytes((i + i // 251 + 31 * k) % 256 for i in range(length)))
+for name, text in [("plan.toml", PLAN), ("box.toml", BOX)]:
+    with open(os.path.join(FOLDER, name), "w") as file:
+        file.write(text)
+built = least_time(["build"])
+heard = least_time(["hear", "258"])
+print("build      %6.1f ms" % built)
+print("hear 258   %6.1f ms" % heard)
+for words in (["find"], ["show"], ["load", "258"]):
+    time = least_time(words)
+    print("%-10s %6.1f ms, %.2f times hear" % (" ".join(words), time, time / heard))
