@@ -3,7 +3,7 @@ use Rattle.std.specs.Prelude.{◌≡◌, ◌≤◌, true}
 use Rattle.ssu_io.specs.Faults.{Rose}
 use Rattle.ssu_status.specs.Status.{OnAbsent, OnBoxRefused, OnDone, OnReadFault, OnShelfFault, OnTooLong, OnWriteFault}
 use Rattle.tool_box.specs.Boxes.{RefusesBox, box_name}
-use Rattle.tool_box.specs.Fetching.{HasNone, SaysAbsent}
+use Rattle.tool_box.specs.Fetching.{HasNone, Lacks, SaysAbsent}
 use Rattle.tool_find.specs.Answers.{IsAnswer, IsUnfailed, NoneWalked, TellsAndPuts, TellsAndPutsOfMost, TellsAndPutsPrefix}
 use Rattle.tool_find.specs.Lines.{text_of, whole_text}
 use Rattle.ts_input.specs.Packets.{IsAtEnd}
@@ -15,9 +15,10 @@ pub record ShowDoes {H A T : Type 0} (result : Status) (shelf : ShelfSeen H) (ai
   pub end : OnDone result (IsAtEnd (air.left air.new))
   pub read_fault : OnReadFault result (TellsAndPuts (text_of true) (shelf.held shelf.old) (air.left air.old) (air.left air.new) (out.contents out.old) (out.contents out.new))
   pub too_long : OnTooLong result (TellsAndPutsOfMost (text_of true) (shelf.held shelf.old) (air.left air.old) (air.left air.new) (out.contents out.old) (out.contents out.new))
-  pub write_fault : OnWriteFault result (TellsAndPutsPrefix (whole_text true) (shelf.held shelf.old) (air.left air.old) (air.left air.new) (out.contents out.old) (out.contents out.new))
+  -- A prefix of the lines; the levels come once the input was read to its end.
+  pub write_fault : OnWriteFault result (TellsAndPutsPrefix true (shelf.held shelf.old) (air.left air.old) (air.left air.new) (out.contents out.old) (out.contents out.new))
   -- Why there is no box: `Absent` comes exactly where the shelf has no box.toml, where it tells its files.
-  pub absent : OnAbsent result (λ name. name ≡ box_name)
+  pub absent : OnAbsent result (λ name. (name ≡ box_name) × Lacks (shelf.held shelf.old) name)
   pub no_box : HasNone (shelf.held shelf.old) box_name → SaysAbsent box_name result
   pub box_refused : OnBoxRefused result (λ field. RefusesBox (shelf.held shelf.old) field)
   -- Why it failed.

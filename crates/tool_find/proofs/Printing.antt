@@ -10,7 +10,7 @@ use Rattle.ts_packet.specs.Packet.{pid_of}
 use Rattle.ts_section.specs.Events.{Feed, heard}
 use Rattle.packet_text.specs.Puts.{Puts, PutsOfMost, PutsPrefix}
 use Rattle.packet_text.specs.SoFar.{SoFar}
-use Rattle.packet_text.proofs.Runs.{begin, step, step_failed, end, end_failed, most, most_failed, most_end_failed, too_long, flushed_longer, longer, prefix_longer}
+use Rattle.packet_text.proofs.Runs.{begin, step, step_failed, end, end_failed, most, most_failed, most_end_failed, too_long, flushed_longer, longer}
 use Rattle.route_tables.specs.Values.{Receiver}
 use Rattle.ssu_route.specs.Queries.{followed}
 use Rattle.tool_find.specs.Lines.{lines_for, lines_if, heard_lines, levels_lines, text_of, whole_text}
@@ -89,13 +89,11 @@ pub walk_step_failed : (shows : Bool) (me : Receiver) (count : ℕ) (before : Wa
     → ((ps : List (List ℕ)) → Walks me before ps → each ≡ heard (Feed packet ∷ followed me ps))
     → GainsPrefix got_now got_then (waited ++ lines_for shows count (pid_of packet) each)
     → count < 16777216
-    → PutsPrefix (whole_text shows me) left left_then got got_then
+    → PutsPrefix (text_of shows me) left left_then got got_then
 walk_step_failed shows me count before left left_now left_then got got_now got_then waited packet each sofar takes one hears failed few =
-    prefix_longer (text_of shows me) (whole_text shows me) (levels_of me) left left_then got got_then
-    (step_failed (text_of shows me) (StandsFor me before) count left left_now left_then got got_now got_then waited packet
+    step_failed (text_of shows me) (StandsFor me before) count left left_now left_then got got_now got_then waited packet
     (lines_for shows count (pid_of packet) each)
-    sofar takes one (more_text shows me before packet each count hears) failed few)
-    (whole_is shows me)
+    sofar takes one (more_text shows me before packet each count hears) failed few
 
 -- The end of the input came, and all that waited went, with the levels behind it.
 pub walk_done : (shows : Bool) (me : Receiver) (count : ℕ) (walk : Walk) (left left_now left_then got got_now got_then : Option (List ℕ)) (waiting : List ℕ)
@@ -137,21 +135,17 @@ pub walk_end_failed : (shows : Bool) (me : Receiver) (count : ℕ) (walk : Walk)
     → TakesFewer left_now left_then 188
     → GainsPrefix got_now got_then waiting
     → count < 16777216
-    → PutsPrefix (whole_text shows me) left left_then got got_then
+    → PutsPrefix (text_of shows me) left left_then got got_then
 walk_end_failed shows me count walk left left_now left_then got got_now got_then waiting sofar rest failed few =
-    prefix_longer (text_of shows me) (whole_text shows me) (levels_of me) left left_then got got_then
-    (end_failed (text_of shows me) (StandsFor me walk) count left left_now left_then got got_now got_then waiting sofar rest failed few)
-    (whole_is shows me)
+    end_failed (text_of shows me) (StandsFor me walk) count left left_now left_then got got_now got_then waiting sofar rest failed few
 
 -- The greatest number of packets was taken, and the write of what waited failed.
 pub walk_most_failed : (shows : Bool) (me : Receiver) (count : ℕ) (walk : Walk) (left left_now got got_now got_then : Option (List ℕ)) (waiting : List ℕ)
     → count ≡ 16777216 → WalkedSoFar shows me count walk left left_now got got_now waiting
     → GainsPrefix got_now got_then waiting
-    → PutsPrefix (whole_text shows me) left left_now got got_then
+    → PutsPrefix (text_of shows me) left left_now got got_then
 walk_most_failed shows me count walk left left_now got got_now got_then waiting so_many sofar failed =
-    prefix_longer (text_of shows me) (whole_text shows me) (levels_of me) left left_now got got_then
-    (most_failed (text_of shows me) (StandsFor me walk) count left left_now got got_now got_then waiting so_many sofar failed)
-    (whole_is shows me)
+    most_failed (text_of shows me) (StandsFor me walk) count left left_now got got_now got_then waiting so_many sofar failed
 
 -- The greatest number of packets was taken, all that waited went, a fault came, or one more byte.
 pub walk_most : (shows : Bool) (me : Receiver) (count : ℕ) (walk : Walk) (left left_now left_then got got_now got_then : Option (List ℕ)) (waiting : List ℕ)

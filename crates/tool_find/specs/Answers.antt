@@ -1,5 +1,5 @@
 -- What `find` and `show` answer.
-use Rattle.std.specs.Prelude.{ℕ, List, Option}
+use Rattle.std.specs.Prelude.{ℕ, Bool, List, Option, ◌⊎◌}
 use Rattle.box_file.specs.declared.file.BoxFile.{BoxFile}
 use Rattle.ssu_shelf.specs.Files.{File}
 use Rattle.ssu_status.specs.declared.status.Status.{Status}
@@ -7,7 +7,8 @@ use Rattle.ssu_status.specs.declared.status.Status.TheVariants.{Done, BoxRefused
 use Rattle.packet_text.specs.Puts.{Puts, PutsOfMost, PutsPrefix}
 use Rattle.tool_box.specs.Boxes.{TellsBox}
 use Rattle.route_tables.specs.Values.{Receiver}
-use Rattle.tool_find.specs.Lines.{receiver_of}
+use Rattle.ts_input.specs.Packets.{IsAtEnd}
+use Rattle.tool_find.specs.Lines.{receiver_of, text_of, whole_text}
 
 -- how a walk over the packets of an input ends: these statuses and no others
 abbrev pub IsEndOfWalk : Status → Type 0
@@ -57,8 +58,13 @@ pub record TellsAndPutsOfMost (text : Receiver → List (List ℕ) → List ℕ)
   pub tells : TellsBox held box_file
   pub puts : PutsOfMost (text (receiver_of box_file)) left left_after got got_after
 
--- The output got only a prefix of it.
-pub record TellsAndPutsPrefix (text : Receiver → List (List ℕ) → List ℕ) (held : Option (List File)) (left left_after got got_after : Option (List ℕ)) : Type 0 where
+-- The output got only a prefix of it: of the lines of the sections, or, once the input was read to its end, of all lines.
+abbrev pub PutsPart : Bool → Receiver → Option (List ℕ) → Option (List ℕ) → Option (List ℕ) → Option (List ℕ) → Type 0
+PutsPart shows me left left_after got got_after =
+    PutsPrefix (text_of shows me) left left_after got got_after
+    ⊎ (PutsPrefix (whole_text shows me) left left_after got got_after × IsAtEnd left_after)
+
+pub record TellsAndPutsPrefix (shows : Bool) (held : Option (List File)) (left left_after got got_after : Option (List ℕ)) : Type 0 where
   pub box_file : BoxFile
   pub tells : TellsBox held box_file
-  pub puts : PutsPrefix (text (receiver_of box_file)) left left_after got got_after
+  pub puts : PutsPart shows (receiver_of box_file) left left_after got got_after

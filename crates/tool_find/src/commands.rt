@@ -3,7 +3,7 @@ ghost use Rattle.std.specs.Prelude.{◌≡◌, ◌≤◌, [], false, true, IfOk}
 ghost use Rattle.ssu_io.specs.Faults.{Rose};
 ghost use Rattle.ssu_status.specs.Status.{OnAbsent, OnBoxRefused, OnDone, OnReadFault, OnShelfFault, OnTooLong, OnWriteFault};
 ghost use Rattle.tool_box.specs.Boxes.{RefusesBox, box_name};
-ghost use Rattle.tool_box.specs.Fetching.{HasNone, SaysAbsent};
+ghost use Rattle.tool_box.specs.Fetching.{HasNone, Lacks, SaysAbsent};
 ghost use Rattle.tool_find.specs.Answers.{IsAnswer, IsUnfailed, NoneWalked, TellsAndPuts, TellsAndPutsOfMost, TellsAndPutsPrefix};
 ghost use Rattle.tool_find.specs.Lines.{receiver_of, text_of, whole_text};
 ghost use Rattle.tool_find.specs.Ways.{Walks};
@@ -29,9 +29,10 @@ pub fn find<H: Shelf, A: Source, T: Sink>(
     ensures end { OnDone result (IsAtEnd (A.left air.new)) }
     ensures read_fault { OnReadFault result (TellsAndPuts (text_of false) (H.held shelf.old) (A.left air.old) (A.left air.new) (T.contents out.old) (T.contents out.new)) }
     ensures too_long { OnTooLong result (TellsAndPutsOfMost (text_of false) (H.held shelf.old) (A.left air.old) (A.left air.new) (T.contents out.old) (T.contents out.new)) }
-    ensures write_fault { OnWriteFault result (TellsAndPutsPrefix (whole_text false) (H.held shelf.old) (A.left air.old) (A.left air.new) (T.contents out.old) (T.contents out.new)) }
+    // A prefix of the lines; the levels come once the input was read to its end.
+    ensures write_fault { OnWriteFault result (TellsAndPutsPrefix false (H.held shelf.old) (A.left air.old) (A.left air.new) (T.contents out.old) (T.contents out.new)) }
     // Why there is no box: `Absent` comes exactly where the shelf has no box.toml, where it tells its files.
-    ensures absent { OnAbsent result (λ name. name ≡ box_name) }
+    ensures absent { OnAbsent result (λ name. (name ≡ box_name) × Lacks (H.held shelf.old) name) }
     ensures no_box { HasNone (H.held shelf.old) box_name → SaysAbsent box_name result }
     ensures box_refused { OnBoxRefused result (λ field. RefusesBox (H.held shelf.old) field) }
     // Why it failed.
@@ -65,9 +66,9 @@ pub fn show<H: Shelf, A: Source, T: Sink>(
     ensures end { OnDone result (IsAtEnd (A.left air.new)) }
     ensures read_fault { OnReadFault result (TellsAndPuts (text_of true) (H.held shelf.old) (A.left air.old) (A.left air.new) (T.contents out.old) (T.contents out.new)) }
     ensures too_long { OnTooLong result (TellsAndPutsOfMost (text_of true) (H.held shelf.old) (A.left air.old) (A.left air.new) (T.contents out.old) (T.contents out.new)) }
-    ensures write_fault { OnWriteFault result (TellsAndPutsPrefix (whole_text true) (H.held shelf.old) (A.left air.old) (A.left air.new) (T.contents out.old) (T.contents out.new)) }
+    ensures write_fault { OnWriteFault result (TellsAndPutsPrefix true (H.held shelf.old) (A.left air.old) (A.left air.new) (T.contents out.old) (T.contents out.new)) }
     // Why there is no box: `Absent` comes exactly where the shelf has no box.toml, where it tells its files.
-    ensures absent { OnAbsent result (λ name. name ≡ box_name) }
+    ensures absent { OnAbsent result (λ name. (name ≡ box_name) × Lacks (H.held shelf.old) name) }
     ensures no_box { HasNone (H.held shelf.old) box_name → SaysAbsent box_name result }
     ensures box_refused { OnBoxRefused result (λ field. RefusesBox (H.held shelf.old) field) }
     // Why it failed.
@@ -102,9 +103,9 @@ fn walk_for<H: Shelf, A: Source, T: Sink>(
     ensures end { OnDone result (IsAtEnd (A.left air.new)) }
     ensures read_fault { OnReadFault result (TellsAndPuts (text_of shows) (H.held shelf.old) (A.left air.old) (A.left air.new) (T.contents out.old) (T.contents out.new)) }
     ensures too_long { OnTooLong result (TellsAndPutsOfMost (text_of shows) (H.held shelf.old) (A.left air.old) (A.left air.new) (T.contents out.old) (T.contents out.new)) }
-    ensures write_fault { OnWriteFault result (TellsAndPutsPrefix (whole_text shows) (H.held shelf.old) (A.left air.old) (A.left air.new) (T.contents out.old) (T.contents out.new)) }
+    ensures write_fault { OnWriteFault result (TellsAndPutsPrefix shows (H.held shelf.old) (A.left air.old) (A.left air.new) (T.contents out.old) (T.contents out.new)) }
     // Why there is no box: `Absent` comes exactly where the shelf has no box.toml, where it tells its files.
-    ensures absent { OnAbsent result (λ name. name ≡ box_name) }
+    ensures absent { OnAbsent result (λ name. (name ≡ box_name) × Lacks (H.held shelf.old) name) }
     ensures no_box { HasNone (H.held shelf.old) box_name → SaysAbsent box_name result }
     ensures box_refused { OnBoxRefused result (λ field. RefusesBox (H.held shelf.old) field) }
     // Why it failed.

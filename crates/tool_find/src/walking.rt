@@ -4,10 +4,10 @@ ghost use Rattle.ssu_io.specs.Bytes.{Gains, GainsPrefix};
 ghost use Rattle.ssu_io.specs.Faults.{HasCause, Rose};
 ghost use Rattle.ssu_io.specs.SinkBuffer.{MovesOn};
 ghost use Rattle.ssu_status.specs.Status.{OnDone, OnReadFault, OnTooLong};
-ghost use Rattle.packet_text.specs.Puts.{Puts, PutsOfMost, PutsPrefix};
+ghost use Rattle.packet_text.specs.Puts.{Puts, PutsOfMost};
 ghost use Rattle.ts_input.specs.Packets.{IsAtEnd};
 ghost use Rattle.route_tables.specs.Values.{Receiver};
-ghost use Rattle.tool_find.specs.Answers.{IsEndOfWalk};
+ghost use Rattle.tool_find.specs.Answers.{IsEndOfWalk, PutsPart};
 ghost use Rattle.tool_find.specs.Lines.{levels_lines, lines_for, text_of, whole_text};
 ghost use Rattle.tool_find.specs.Ways.{Walks};
 
@@ -39,7 +39,7 @@ pub(crate) fn walk_all<A: Source, T: Sink>(
         → IfOk result (λ status. OnTooLong status (PutsOfMost (text_of shows me) (A.left air.old) (A.left air.new) (T.contents out.old) (T.contents out.new))) }
     ensures status { IfOk result IsEndOfWalk }
     ensures write_fault { (me : Receiver) → Walks me walk.old []
-        → OnErr result (PutsPrefix (whole_text shows me) (A.left air.old) (A.left air.new) (T.contents out.old) (T.contents out.new)) }
+        → OnErr result (PutsPart shows me (A.left air.old) (A.left air.new) (T.contents out.old) (T.contents out.new)) }
     ensures write_cause { HasCause (T.faults out.old) (T.faults out.new) result }
     ensures air_later { A.faults air.old ≤ A.faults air.new }
 {

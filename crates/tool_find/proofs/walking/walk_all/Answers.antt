@@ -1,4 +1,4 @@
-use Rattle.std.proofs.Common.{◌≡◌, length, arith}
+use Rattle.std.proofs.Common.{◌≡◌, ◌⊎◌, length, arith, inl, inr}
 use Rattle.std.proofs.lemmas.Result.{err_from_is_err_and}
 use Rattle.tool_find.proofs.Printing.{walk_begin, walk_step, walk_step_failed, walk_done, walk_done_failed, walk_end, walk_end_failed, walk_most, walk_most_failed, walk_too_long, walk_most_done, walk_most_done_failed}
 use Rattle.tool_find.proofs.walking.walk_all.Goals as goal
@@ -16,9 +16,12 @@ returns-in_err-finish-in-End-clause-write_fault g c = λ me walks.
     let got = g.T.Sink.contents in
     let p = err_from_is_err_and c.from_residual.result c.from_residual.ensures.1 in
     rw p.1
-    (walk_done_failed c.args.shows me c.loop-number.number c.loop-number.walk (left c.args.air.now) (left c.loop-number.air) (left c.next_packet.new.air)
-    (got c.args.out.now) (got c.loop-number.out) (got c.finish.new.out) c.loop-number.waiting
-    (c.loop-number.invariant.walked me walks) c.in-End.ensures.rest (c.in_err-finish-in-End.ensures.failed me) c.loop-number-test.true)
+    (inr (
+      walk_done_failed c.args.shows me c.loop-number.number c.loop-number.walk (left c.args.air.now) (left c.loop-number.air) (left c.next_packet.new.air)
+          (got c.args.out.now) (got c.loop-number.out) (got c.finish.new.out) c.loop-number.waiting
+          (c.loop-number.invariant.walked me walks) c.in-End.ensures.rest (c.in_err-finish-in-End.ensures.failed me) c.loop-number-test.true,
+      c.in-End.ensures.end,
+    ))
 
 pub returns-in-End-clause-done : goal.returns-in-End-clause-done
 returns-in-End-clause-done g c = λ me walks.
@@ -34,9 +37,9 @@ returns-in_err-flush-in-Failed-clause-write_fault g c = λ me walks.
     let got = g.T.Sink.contents in
     let p = err_from_is_err_and c.from_residual-in_err-flush-in-Failed.result c.from_residual-in_err-flush-in-Failed.ensures.1 in
     rw p.1
-    (walk_end_failed c.args.shows me c.loop-number.number c.loop-number.walk (left c.args.air.now) (left c.loop-number.air) (left c.next_packet.new.air)
+    (inl (walk_end_failed c.args.shows me c.loop-number.number c.loop-number.walk (left c.args.air.now) (left c.loop-number.air) (left c.next_packet.new.air)
     (got c.args.out.now) (got c.loop-number.out) (got c.flush.new.sink) c.loop-number.waiting
-    (c.loop-number.invariant.walked me walks) c.in-Failed.ensures.failed c.in_err-flush-in-Failed.ensures.failed c.loop-number-test.true)
+    (c.loop-number.invariant.walked me walks) c.in-Failed.ensures.failed c.in_err-flush-in-Failed.ensures.failed c.loop-number-test.true))
 
 pub returns-in-Failed-clause-read_fault : goal.returns-in-Failed-clause-read_fault
 returns-in-Failed-clause-read_fault g c = λ me walks.
@@ -53,9 +56,9 @@ returns-in_err-put_if-clause-write_fault g c = λ me walks.
     let one : length c.next_packet.new.packet ≡ 188 = omega arith in
     let p = err_from_is_err_and c.from_residual-in_err-put_if.result c.from_residual-in_err-put_if.ensures.1 in
     rw p.1
-    (walk_step_failed c.args.shows me c.loop-number.number c.loop-number.walk (left c.args.air.now) (left c.loop-number.air) (left c.next_packet.new.air)
+    (inl (walk_step_failed c.args.shows me c.loop-number.number c.loop-number.walk (left c.args.air.now) (left c.loop-number.air) (left c.next_packet.new.air)
     (got c.args.out.now) (got c.loop-number.out) (got c.put_if.new.out) c.loop-number.waiting c.next_packet.new.packet c.take.new.self.each
-    (c.loop-number.invariant.walked me walks) c.in-Packet.ensures.packet one (c.take.ensures.heard me) (rw c.pid_in.ensures at c.in_err-put_if.ensures.failed) c.loop-number-test.true)
+    (c.loop-number.invariant.walked me walks) c.in-Packet.ensures.packet one (c.take.ensures.heard me) (rw c.pid_in.ensures at c.in_err-put_if.ensures.failed) c.loop-number-test.true))
 
 pub loop-number-preserved : goal.loop-number-preserved
 loop-number-preserved g c =
@@ -77,9 +80,9 @@ returns-in_err-flush-clause-write_fault g c = λ me walks.
     let most : c.loop-number.number ≡ 16777216 = omega arith in
     let p = err_from_is_err_and c.from_residual-in_err-flush.result c.from_residual-in_err-flush.ensures.1 in
     rw p.1
-    (walk_most_failed c.args.shows me c.loop-number.number c.loop-number.walk (left c.args.air.now) (left c.loop-number.air)
+    (inl (walk_most_failed c.args.shows me c.loop-number.number c.loop-number.walk (left c.args.air.now) (left c.loop-number.air)
     (got c.args.out.now) (got c.loop-number.out) (got c.flush-2.new.sink) c.loop-number.waiting
-    most (c.loop-number.invariant.walked me walks) c.in_err-flush.ensures.failed)
+    most (c.loop-number.invariant.walked me walks) c.in_err-flush.ensures.failed))
 
 pub returns-in_err-finish-in-Nothing-clause-write_fault : goal.returns-in_err-finish-in-Nothing-clause-write_fault
 returns-in_err-finish-in-Nothing-clause-write_fault g c = λ me walks.
@@ -88,9 +91,12 @@ returns-in_err-finish-in-Nothing-clause-write_fault g c = λ me walks.
     let most : c.loop-number.number ≡ 16777216 = omega arith in
     let p = err_from_is_err_and c.from_residual-in_err-finish-in-Nothing.result c.from_residual-in_err-finish-in-Nothing.ensures.1 in
     rw p.1
-    (walk_most_done_failed c.args.shows me c.loop-number.number c.loop-number.walk (left c.args.air.now) (left c.loop-number.air) (left c.behind_last.new.air)
-    (got c.args.out.now) (got c.loop-number.out) (got c.flush-2.new.sink) (got c.finish-in-Nothing.new.out) c.loop-number.waiting c.flush-2.new.self
-    most (c.loop-number.invariant.walked me walks) c.in-Nothing.ensures.none c.in_ok-flush.ensures.ok c.flush-2.ensures.empty (c.in_err-finish-in-Nothing.ensures.failed me))
+    (inr (
+      walk_most_done_failed c.args.shows me c.loop-number.number c.loop-number.walk (left c.args.air.now) (left c.loop-number.air) (left c.behind_last.new.air)
+          (got c.args.out.now) (got c.loop-number.out) (got c.flush-2.new.sink) (got c.finish-in-Nothing.new.out) c.loop-number.waiting c.flush-2.new.self
+          most (c.loop-number.invariant.walked me walks) c.in-Nothing.ensures.none c.in_ok-flush.ensures.ok c.flush-2.ensures.empty (c.in_err-finish-in-Nothing.ensures.failed me),
+      c.in-Nothing.ensures.end,
+    ))
 
 pub returns-in_ok-finish-in-Nothing-clause-done : goal.returns-in_ok-finish-in-Nothing-clause-done
 returns-in_ok-finish-in-Nothing-clause-done g c = λ me walks.
