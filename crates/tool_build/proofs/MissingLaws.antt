@@ -1,8 +1,6 @@
 -- The files of a plan, name by name.
-use Rattle.std.proofs.Common.{◌≡◌, ℕ, zero, suc, ◌+◌, List, [], ◌∷◌, ◌++◌, length, take, drop, ap, arith}
+use Rattle.std.proofs.Common.{◌≡◌, ℕ, zero, suc, ◌+◌, List, [], ◌∷◌, ◌++◌, take, drop, ap, arith}
 use Rattle.std.specs.Prelude.{Option, Some, None, Ok, Err, slice_get}
-use Rattle.std.proofs.lemmas.List.{take_all}
-use Rattle.ssu_io.specs.Bytes.{Gains, GainsPrefix}
 use Rattle.ssu_shelf.specs.Files.{File, Has}
 use Rattle.ssu_status.specs.Status.{OnAbsent}
 use Rattle.ssu_status.specs.declared.status.Status.{Status}
@@ -10,12 +8,6 @@ use Rattle.ssu_status.specs.declared.status.Status.TheVariants.{Done, Usage, Box
 use Rattle.arrayvec.specs.ArrayString.{ArrayString}
 use Rattle.tool_box.specs.Fetching.{HasNone, IsAbsent, Lacks, SaysAbsent, TellsAbsence}
 use Rattle.tool_build.specs.Held.{HasEach, IsFirstMissing}
-
--- what was put whole was put as a prefix
-pub whole_prefix : (before after : Option (List ℕ)) (piece : List ℕ) → Gains before after piece → GainsPrefix before after piece
-whole_prefix before after piece h =
-    let all = take_all (length piece) piece (omega arith) in
-    (length piece, omega arith, rw all h)
 
 -- ---- one file more
 

@@ -6,26 +6,26 @@ use Rattle.ssu_status.specs.declared.status.Status.TheVariants.{Done, Usage, Box
 use Rattle.tool_build.specs.Building.{IsUnrefused}
 use Rattle.tool_build.specs.Refusals.{IsMakingRefusal}
 
--- what two clauses say of a write fault
-pub write_fault_both : {P Q R : Type 0} (s : Status) → (P → Q → R) → OnWriteFault s P → OnWriteFault s Q → OnWriteFault s R
-write_fault_both Done f p q = tt
-write_fault_both Usage f p q = tt
-write_fault_both (BoxRefused x) f p q = tt
-write_fault_both (PlanRefused x) f p q = tt
-write_fault_both Foreign f p q = tt
-write_fault_both (Nothing x) f p q = tt
-write_fault_both (Incomplete x y) f p q = tt
-write_fault_both (BadModule x y z) f p q = tt
-write_fault_both (Absent x) f p q = tt
-write_fault_both ReadFault f p q = tt
-write_fault_both WriteFault f p q = f p q
-write_fault_both FlashFault f p q = tt
-write_fault_both TooLong f p q = tt
-write_fault_both NoMemory f p q = tt
-write_fault_both NoFit f p q = tt
-write_fault_both Geometry f p q = tt
-write_fault_both ShelfFault f p q = tt
-write_fault_both (BuildRefused x) f p q = tt
+-- what follows of a write fault
+pub write_fault_map : {P R : Type 0} (s : Status) → (P → R) → OnWriteFault s P → OnWriteFault s R
+write_fault_map Done f p = tt
+write_fault_map Usage f p = tt
+write_fault_map (BoxRefused x) f p = tt
+write_fault_map (PlanRefused x) f p = tt
+write_fault_map Foreign f p = tt
+write_fault_map (Nothing x) f p = tt
+write_fault_map (Incomplete x y) f p = tt
+write_fault_map (BadModule x y z) f p = tt
+write_fault_map (Absent x) f p = tt
+write_fault_map ReadFault f p = tt
+write_fault_map WriteFault f p = f p
+write_fault_map FlashFault f p = tt
+write_fault_map TooLong f p = tt
+write_fault_map NoMemory f p = tt
+write_fault_map NoFit f p = tt
+write_fault_map Geometry f p = tt
+write_fault_map ShelfFault f p = tt
+write_fault_map (BuildRefused x) f p = tt
 
 -- the sections are not made for want of memory, where there is no other reason
 pub making_unrefused : (s : Status) (Q : BuildFault → Type 0) → IsMakingRefusal s → OnBuildRefused s Q → ((fault : BuildFault) → Q fault → ⊥) → IsUnrefused s

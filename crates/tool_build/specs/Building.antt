@@ -1,6 +1,7 @@
 -- What `build` puts: the packets of the plan's turns, and a line that counts them.
-use Rattle.std.specs.Prelude.{ℕ, List, Option, length}
+use Rattle.std.specs.Prelude.{◌≡◌, ◌⊎◌, ℕ, List, Option, length}
 use Rattle.std.specs.List.{concat}
+use Rattle.head_carousel.specs.Refusal.{IsBuildable}
 use Rattle.head_carousel.specs.Sections.{sections_of}
 use Rattle.head_mux.specs.Sent.{sent}
 use Rattle.head_plan.specs.Plans.{PlanData}
@@ -19,21 +20,28 @@ packets_of plan images = sent (sections_of plan images) plan.turns
 abbrev pub line_of : PlanData → List (List ℕ) → List ℕ
 line_of plan images = built_line (length (sections_of plan images)) (length (packets_of plan images))
 
--- The shelf has a plan and its files, the made file got their packets, and the output got the line.
+-- All packets come before the line: one sink got a prefix of them and the other nothing, or all of them and the other a
+-- prefix of the line.
+abbrev pub PutsPrefix : (made made_after got got_after : Option (List ℕ)) (packets : List (List ℕ)) (line : List ℕ) → Type 0
+PutsPrefix made made_after got got_after packets line =
+    (GainsPrefix made made_after (concat packets) × (got_after ≡ got)) ⊎ (Gains made made_after (concat packets) × GainsPrefix got got_after line)
+
+-- The shelf has a plan and its files, which pass no limit, the made file got their packets, and the output got the line.
 pub record Builds (held : Option (List File)) (made made_after got got_after : Option (List ℕ)) : Type 0 where
   pub plan : PlanData
   pub images : List (List ℕ)
   pub broadcast : TellsBroadcast held plan images
+  pub buildable : IsBuildable plan images
   pub packets : Gains made made_after (concat (packets_of plan images))
   pub line : Gains got got_after (line_of plan images)
 
--- The same, where each got only a prefix.
+-- The same, where it ended after a part of the packets, or after them and a part of the line.
 pub record BuildsPrefix (held : Option (List File)) (made made_after got got_after : Option (List ℕ)) : Type 0 where
   pub plan : PlanData
   pub images : List (List ℕ)
   pub broadcast : TellsBroadcast held plan images
-  pub packets : GainsPrefix made made_after (concat (packets_of plan images))
-  pub line : GainsPrefix got got_after (line_of plan images)
+  pub buildable : IsBuildable plan images
+  pub puts : PutsPrefix made made_after got got_after (packets_of plan images) (line_of plan images)
 
 -- what the command answers
 abbrev pub IsAnswer : Status → Type 0

@@ -1,16 +1,16 @@
 //! The command: from `plan.toml` and its files to packets.
 ghost use Rattle.std.specs.Prelude.{◌≡◌, ◌≤◌, ◌⊎◌, ℕ, List, IfErr, IfOk, OnOk, length, map};
 ghost use Rattle.std.specs.List.{All, concat};
-ghost use Rattle.head_carousel.specs.Refusal.{IsCause};
+ghost use Rattle.head_carousel.specs.Refusal.{IsBuildable, IsCause};
 ghost use Rattle.head_carousel.specs.Sections.{sections_of};
 ghost use Rattle.head_mux.specs.Sent.{IsSendable, sent};
 ghost use Rattle.head_plan.specs.Plans.{mentions};
 ghost use Rattle.ssu_answer.specs.declared.build_fault.BuildFault.{BuildFault};
-ghost use Rattle.ssu_io.specs.Bytes.{Gains, GainsPrefix};
+ghost use Rattle.ssu_io.specs.Bytes.{Gains};
 ghost use Rattle.ssu_io.specs.Faults.{Rose};
 ghost use Rattle.ssu_line.specs.Lines.{built_line};
 ghost use Rattle.ssu_status.specs.Status.{OnAbsent, OnBuildRefused, OnDone, OnNoMemory, OnPlanRefused, OnShelfFault, OnWriteFault};
-ghost use Rattle.tool_build.specs.Building.{Builds, BuildsPrefix, IsAnswer, IsEarly, IsUnrefused};
+ghost use Rattle.tool_build.specs.Building.{Builds, BuildsPrefix, IsAnswer, IsEarly, IsUnrefused, PutsPrefix};
 ghost use Rattle.tool_build.specs.Held.{IsLimit, LacksMention, RefusesBuild, RefusesPlan, plan_name};
 ghost use Rattle.tool_build.specs.Refusals.{IsMakingRefusal, IsSendingRefusal, making_refusal};
 ghost use Rattle.tool_box.specs.Fetching.{HasNone, Lacks, SaysAbsent};
@@ -86,6 +86,7 @@ pub fn build<H: Shelf, W: Sink, T: Sink>(
 fn make(alloc: Global, plan: &Plan, images: &[Vec<u8>]) -> Result<Vec<Timed>, Status>
     requires images { length images.now ≡ length (mentions plan.now.group) }
     ensures made { IfOk result (λ list. list.items ≡ sections_of plan.now (map (λ i. i.items) images.now)) }
+    ensures buildable { OnOk result (IsBuildable plan.now (map (λ i. i.items) images.now)) }
     ensures some { IfOk result (λ list. 1 ≤ length list.items) }
     ensures few { IfOk result (λ list. length list.items ≤ 65536) }
     ensures sendable { IfOk result (λ list. All IsSendable list.items) }
@@ -121,8 +122,8 @@ fn send<W: Sink, T: Sink>(
     requires sendable { All IsSendable list.now }
     ensures made { OnOk result (Gains (W.contents made.old) (W.contents made.new) (concat (sent list.now turns))) }
     ensures line { OnOk result (Gains (T.contents out.old) (T.contents out.new) (built_line (length list.now) (length (sent list.now turns)))) }
-    ensures made_part { IfErr result (λ status. OnWriteFault status (GainsPrefix (W.contents made.old) (W.contents made.new) (concat (sent list.now turns)))) }
-    ensures line_part { IfErr result (λ status. OnWriteFault status (GainsPrefix (T.contents out.old) (T.contents out.new) (built_line (length list.now) (length (sent list.now turns))))) }
+    ensures part { IfErr result (λ status. OnWriteFault status (PutsPrefix (W.contents made.old) (W.contents made.new) (T.contents out.old) (T.contents out.new)
+        (sent list.now turns) (built_line (length list.now) (length (sent list.now turns))))) }
     ensures cause { IfErr result (λ status. OnWriteFault status (Rose (W.faults made.old) (W.faults made.new) ⊎ Rose (T.faults out.old) (T.faults out.new))) }
     ensures memory_made { IfErr result (λ status. OnNoMemory status (made.new ≡ made.old)) }
     ensures memory_out { IfErr result (λ status. OnNoMemory status (out.new ≡ out.old)) }

@@ -2,7 +2,7 @@ use Rattle.std.proofs.Common.{◌≡◌, ◌∙◌, ap}
 use Rattle.std.specs.Prelude.{map}
 use Rattle.head_plan.specs.Plans.{PlanData}
 use Rattle.tool_build.specs.Held.{TellsBroadcast}
-use Rattle.tool_build.proofs.StatusLaws.{making_unrefused, write_fault_both}
+use Rattle.tool_build.proofs.StatusLaws.{making_unrefused, write_fault_map}
 use Rattle.tool_build.proofs.building.build.Goals as goal
 
 pub returns-in-Err-make-clause-complete : goal.returns-in-Err-make-clause-complete
@@ -22,6 +22,6 @@ returns-clause-write_fault g c =
     let turns : c.plan.inside.turns ≡ c.in-Ok.plan.turns = ap (λ (p : PlanData). p.turns) c.plan.view_is in
     let own = rw c.deref.ensures.value at c.in-Ok-make.ensures.made in
     let list = c.deref-2.ensures.value ∙ own in
-    let made = rw (list, turns) at c.in-Err-send.ensures.made_part in
-    let line = rw (list, turns) at c.in-Err-send.ensures.line_part in
-    write_fault_both c.in-Err-send.status (λ m l. record { plan = c.in-Ok.plan; images = images; broadcast = broadcast; packets = m; line = l }) made line
+    let part = rw (list, turns) at c.in-Err-send.ensures.part in
+    let buildable = rw c.deref.ensures.value at c.in-Ok-make.ensures.buildable in
+    write_fault_map c.in-Err-send.status (λ puts. record { plan = c.in-Ok.plan; images = images; broadcast = broadcast; buildable = buildable; puts = puts }) part
