@@ -62,7 +62,8 @@ pub(crate) fn answer<A: Source, W: Sink, T: Sink>(
         × ((made.new ≡ made.old) × (out.new ≡ out.old))) }
     ensures write { OnWrite result ((v : Verdict) × ComesOf pid (A.left air.old) (A.left air.new) v
         (λ sections. PutsPart sections v (W.contents made.old) (W.contents made.new) (T.contents out.old) (T.contents out.new)
-        ((out.new ≡ out.old) × Rose (W.faults made.old) (W.faults made.new)) (Rose (T.faults out.old) (T.faults out.new)))) }
+        ((out.new ≡ out.old) × Rose (W.faults made.old) (W.faults made.new)) (Rose (T.faults out.old) (T.faults out.new)))
+        × (is_loaded v ≡ false → (made.new ≡ made.old) × Rose (T.faults out.old) (T.faults out.new))) }
     ensures write_cause { OnWrite result (Rose (W.faults made.old) (W.faults made.new) ⊎ Rose (T.faults out.old) (T.faults out.new)) }
     ensures memory { OnMemory result (((air.new ≡ air.old) ⊎ HearsAtPacket pid (A.left air.old) (A.left air.new) IsChosen IsUnchosen)
         × ((made.new ≡ made.old) × (out.new ≡ out.old))) }
@@ -101,7 +102,8 @@ fn conclude<W: Sink, T: Sink>(
     ensures made_kept { IfOk result (λ v. is_loaded v ≡ false → made.new ≡ made.old) }
     ensures failed { OnErr result ((v : Verdict) × ((sections : List (List ℕ)) → StandsFor progress.now sections
         → PutsPart sections v (W.contents made.old) (W.contents made.new) (T.contents out.old) (T.contents out.new)
-        ((out.new ≡ out.old) × Rose (W.faults made.old) (W.faults made.new)) (Rose (T.faults out.old) (T.faults out.new)))) }
+        ((out.new ≡ out.old) × Rose (W.faults made.old) (W.faults made.new)) (Rose (T.faults out.old) (T.faults out.new)))
+        × (is_loaded v ≡ false → (made.new ≡ made.old) × Rose (T.faults out.old) (T.faults out.new))) }
     ensures cause { OnErr result (Rose (W.faults made.old) (W.faults made.new) ⊎ Rose (T.faults out.old) (T.faults out.new)) }
     ensures only_write { IfErr result IsWrite }
     ensures made_later { W.faults made.old ≤ W.faults made.new }

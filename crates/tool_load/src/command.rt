@@ -1,13 +1,13 @@
 //! `load PID`: the first group of the carousel on a PID.
 
-ghost use Rattle.std.specs.Prelude.{◌≡◌, ◌≤◌, ◌⊎◌};
+ghost use Rattle.std.specs.Prelude.{◌≡◌, ◌≤◌, false, ◌⊎◌};
 ghost use Rattle.ssu_io.specs.Faults.{Rose};
 ghost use Rattle.ssu_answer.specs.declared.chosen.Chosen.{Chosen};
 ghost use Rattle.ssu_status.specs.Status.{OnDone, OnNothing, OnIncomplete, OnBadModule, OnReadFault, OnWriteFault, OnTooLong, OnNoMemory};
 ghost use Rattle.tool_load.specs.declared.verdict.Verdict.{Verdict};
 ghost use Rattle.tool_load.specs.declared.verdict.Verdict.TheVariants.{Loaded, Nothing, Incomplete, BadModule};
 ghost use Rattle.tool_load.specs.Load.{IsOpen, IsChosen, IsUnchosen, HearsIn, HearsAtPacket, IsWithin, IsOneMore, ComesOf};
-ghost use Rattle.tool_load.specs.Printed.{PutsPart};
+ghost use Rattle.tool_load.specs.Printed.{is_loaded, PutsPart};
 ghost use Rattle.tool_load.specs.Told.{Tells, status_of as status_of_answer, status_of_verdict as status_of_one, OnNoImage, OnNoVerdict, IsAnswer, IsUnfailed};
 
 use crate::answer::{Failing, answer};
@@ -36,7 +36,8 @@ pub fn load<A: Source, W: Sink, T: Sink>(
     ensures too_long { OnTooLong result (HearsIn pid (A.left air.old) (A.left air.new) IsOneMore IsOpen) }
     ensures write_fault { OnWriteFault result ((v : Verdict) × ComesOf pid (A.left air.old) (A.left air.new) v
         (λ sections. PutsPart sections v (W.contents made.old) (W.contents made.new) (T.contents out.old) (T.contents out.new)
-        ((out.new ≡ out.old) × Rose (W.faults made.old) (W.faults made.new)) (Rose (T.faults out.old) (T.faults out.new)))) }
+        ((out.new ≡ out.old) × Rose (W.faults made.old) (W.faults made.new)) (Rose (T.faults out.old) (T.faults out.new)))
+        × (is_loaded v ≡ false → (made.new ≡ made.old) × Rose (T.faults out.old) (T.faults out.new))) }
     // Memory is taken before the first packet, and at the packet at which the group is chosen.
     ensures no_memory { OnNoMemory result ((air.new ≡ air.old) ⊎ HearsAtPacket pid (A.left air.old) (A.left air.new) IsChosen IsUnchosen) }
     ensures made_kept { OnNoImage result (made.new ≡ made.old) }

@@ -1,6 +1,6 @@
 //! What a verdict puts out.
 
-ghost use Rattle.std.specs.Prelude.{◌≡◌, ◌≤◌, false, OnOk, OnErr, ◌⊎◌};
+ghost use Rattle.std.specs.Prelude.{◌≡◌, ◌≤◌, true, false, OnOk, OnErr, ◌⊎◌};
 ghost use Rattle.ssu_io.specs.Bytes.{Gains, GainsPrefix};
 ghost use Rattle.ssu_io.specs.Faults.{HasCause, Rose};
 ghost use Rattle.tool_load.specs.Printed.{line_of as line_of_verdict, made_of, is_loaded};
@@ -14,6 +14,7 @@ fn put_made<W: Sink>(verdict: &Verdict, image: &[u8], made: &mut W) -> Result<()
     ensures whole { OnOk result (Gains (W.contents made.old) (W.contents made.new) (made_of verdict.now image.now)) }
     ensures prefix { OnErr result (GainsPrefix (W.contents made.old) (W.contents made.new) (made_of verdict.now image.now)) }
     ensures cause { HasCause (W.faults made.old) (W.faults made.new) result }
+    ensures only_loaded { OnErr result (is_loaded verdict.now ≡ true) }
     ensures kept { is_loaded verdict.now ≡ false → made.new ≡ made.old }
 {
     match verdict {
@@ -52,6 +53,7 @@ pub(crate) fn put_verdict<W: Sink, T: Sink>(
         × GainsPrefix (T.contents out.old) (T.contents out.new) (line_of_verdict verdict.now)
         × Rose (T.faults out.old) (T.faults out.new))) }
     ensures cause { OnErr result (Rose (W.faults made.old) (W.faults made.new) ⊎ Rose (T.faults out.old) (T.faults out.new)) }
+    ensures out_cause { OnErr result (is_loaded verdict.now ≡ false → Rose (T.faults out.old) (T.faults out.new)) }
     ensures kept { is_loaded verdict.now ≡ false → made.new ≡ made.old }
     ensures made_later { W.faults made.old ≤ W.faults made.new }
     ensures out_later { T.faults out.old ≤ T.faults out.new }

@@ -34,6 +34,7 @@ returns-in-Verdict-clause-write g c =
           (λ sections. PutsPart sections p.0 (g.W.Sink.contents c.args.made.now) (g.W.Sink.contents d.new.made) (g.T.Sink.contents c.args.out.now) (g.T.Sink.contents d.new.out)
           ((d.new.out ≡ c.args.out.now) × Rose (g.W.Sink.faults c.args.made.now) (g.W.Sink.faults d.new.made)) (Rose (g.T.Sink.faults c.args.out.now) (g.T.Sink.faults d.new.out)))
           c.in-Verdict.ensures.reached p.1 (λ sections q. (q.image, q.comes)),
+      p.2,
     ))
 
 pub returns-in-Input-clause-write : goal.returns-in-Input-clause-write
@@ -46,4 +47,5 @@ returns-in-Input-clause-write g c =
           (λ sections. PutsPart sections p.0 (g.W.Sink.contents c.args.made.now) (g.W.Sink.contents d.new.made) (g.T.Sink.contents c.args.out.now) (g.T.Sink.contents d.new.out)
           ((d.new.out ≡ c.args.out.now) × Rose (g.W.Sink.faults c.args.made.now) (g.W.Sink.faults d.new.made)) (Rose (g.T.Sink.faults c.args.out.now) (g.T.Sink.faults d.new.out)))
           c.in-Input.ensures.input c.in-Input.ensures.end p.1 (λ sections q. (q.image, q.comes)),
+      p.2,
     ))
