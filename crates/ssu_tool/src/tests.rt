@@ -285,14 +285,48 @@ software_version = 2
 modules = [\"a.bin\"]
 ";
 
-const NONE: &str = "1 none
-2 none
-3 none
-4 none
-5 none
-6 none
-7 none
-";
+/// The lines of the levels, where they have a value and where they have none.
+const FOUND_LINES: [&str; 7] = [
+    "1 services 1\n",
+    "2 program 3 pid 256\n",
+    "3 component 257 type 2\n",
+    "4 notices 1\n",
+    "5 carousel 258\n",
+    "6 groups 1\n",
+    "7 modules 1 bytes 9\n",
+];
+
+const NONE_LINES: [&str; 7] = [
+    "1 none\n", "2 none\n", "3 none\n", "4 none\n", "5 none\n", "6 none\n", "7 none\n",
+];
+
+/// The seven lines where so many levels have a value.
+fn lines_of(alloc: Global, levels: usize) -> Result<Vec<u8>, AllocError> {
+    let mut lines = Vec::new(alloc);
+    for level in 0..7usize {
+        let line = if level < levels {
+            FOUND_LINES[level]
+        } else {
+            NONE_LINES[level]
+        };
+        lines.extend_from_slice(line.as_bytes())?;
+    }
+    Ok(lines)
+}
+
+/// The first eight packets without one of them.
+fn without(alloc: Global, packets: &[u8], left_out: usize) -> Result<Vec<u8>, AllocError> {
+    let mut others = Vec::new(alloc);
+    if packets.len() < 8 * 188 {
+        return Ok(others);
+    }
+    for k in 0..8usize {
+        if k != left_out {
+            others.extend_from_slice(&packets[188 * k..188 * k + 188])?;
+        }
+    }
+    Ok(others)
+}
 
 #[test]
 fn a_level_ends_where_its_section_is_left_out(rt: HostRuntime) -> Result<(), Fail> {
@@ -302,8 +336,7 @@ fn a_level_ends_where_its_section_is_left_out(rt: HostRuntime) -> Result<(), Fai
     let none = Vec::new(alloc);
     let built = outcome_on(alloc, &["folder", "build"], &mut shelf, none, &mut flash)?;
     assert_eq!(rt; built.put.as_slice(), "sections 8 packets 8\n".as_bytes());
-    assert_eq!(rt; built.made.len(), 8 * 188usize);
-    // The packet that is left out (NIT, PAT, TDT, PMT, UNT, DSI, DII), and the levels that are found then.
+    // The packet that is left out (NIT, PAT, PMT, UNT, TDT, DSI, DII, DDB), and how many levels have a value then.
     let rows = [
         (0usize, 0usize),
         (1, 1),
@@ -315,18 +348,10 @@ fn a_level_ends_where_its_section_is_left_out(rt: HostRuntime) -> Result<(), Fai
         (7, 7),
     ];
     for (left_out, levels) in rows {
-        let mut air = built.made[..188 * left_out].to_vec(alloc)?;
-        air.extend_from_slice(&built.made[188 * left_out + 188..])?;
+        let air = without(alloc, &built.made, left_out)?;
         let found = outcome_on(alloc, &["folder", "find"], &mut shelf, air, &mut flash)?;
         assert_eq!(rt; found.status, Status::Done);
-        assert!(rt;
-            found.put.ends_with(&NONE.as_bytes()[7 * levels..]),
-            "without {left_out}"
-        );
-        if levels > 0 {
-            let more = &NONE.as_bytes()[7 * levels - 7..];
-            assert!(rt; !found.put.ends_with(more), "without {left_out}");
-        }
+        assert_eq!(rt; found.put.as_slice(), lines_of(alloc, levels)?.as_slice());
     }
     Ok(())
 }
