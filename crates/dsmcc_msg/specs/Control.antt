@@ -4,7 +4,7 @@ use Rattle.std.specs.Prelude.{ℕ, Bool, List, length, nat_le}
 use Rattle.wire.specs.Format.{Front, Whole, reads, fixed, skip, ◌&◌, ◌then◌, several, sized, rest, only, whole_reads, checked}
 use Rattle.wire.specs.Number.{number}
 use Rattle.ssu_compat.specs.Compat.{compat, EntryFields}
-use Rattle.dsmcc_msg.specs.Inside.{noted}
+use Rattle.wire.specs.Inside.{noted}
 use Rattle.dsmcc_msg.specs.Message.{MessageFields, message_of, section_of, control_table}
 
 -- ---- DSI

@@ -5,7 +5,7 @@ use Rattle.wire.specs.Laws.{IsFront, IsWhole, reads_exact, fixed_exact, pair_exa
 use Rattle.wire.specs.Number.{number1, number2, number4, skip_exact}
 use Rattle.ssu_compat.specs.Exact.{compat_exact}
 use Rattle.section_form.specs.Long.{long_form_exact}
-use Rattle.dsmcc_msg.specs.Inside.{inside_exact, noted_exact}
+use Rattle.wire.specs.Inside.{inside_exact, noted_exact}
 use Rattle.dsmcc_msg.specs.Message.{message_fields, message, has_id, payload_of, message_of, has_table, body_of, second, section_of, protocol_discriminator, dsmcc_type, control_table, block_table}
 use Rattle.dsmcc_msg.specs.Control.{group_fields, group_entry, counted_groups, group_list, private_groups, dsi_payload, dsi_id, dsi_fields, dsi_message, dsi, module_fields, module_entry, download_fields, dii_payload, dii_id, fits_a_section, dii_fields, dii_message, dii}
 use Rattle.dsmcc_msg.specs.Block.{block_fields, ddb_payload, ddb_id, ddb_fields, ddb_message, ddb}

@@ -1,4 +1,3 @@
-pub mod Inside
 pub mod Message
 pub mod Control
 pub mod Block

@@ -3,7 +3,7 @@ use Rattle.std.specs.Prelude.{ℕ, Bool, List, ◌==◌}
 use Rattle.wire.specs.Format.{Front, Whole, reads, fixed, skip, ◌&◌, ◌with◌, sized, after, rest, only, whole_such, whole_reads}
 use Rattle.wire.specs.Number.{number}
 use Rattle.section_form.specs.Long.{long_form, LongFields}
-use Rattle.dsmcc_msg.specs.Inside.{inside}
+use Rattle.wire.specs.Inside.{inside}
 
 -- What every message has. A data block has its downloadId where the others have their transactionId.
 pub record MessageFields : Type 0 where

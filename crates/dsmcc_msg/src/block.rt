@@ -3,11 +3,12 @@
 ghost use Rattle.std.specs.Prelude.{◌≡◌, ◌≤◌, length, IfSome, IfOk};
 ghost use Rattle.std.specs.Option.{option_map};
 ghost use Rattle.wire.specs.Read.{Reads};
+ghost use Rattle.section_form.specs.Section.{IsRight};
 ghost use Rattle.dsmcc_msg.specs.Block.{DdbFields, ddb_payload, ddb_message, ddb as ddb_format};
 ghost use Rattle.dsmcc_msg.specs.View.{ddb_view};
 ghost use Rattle.dsmcc_msg.specs.Written.{ddb_payload_bytes, ddb_bytes};
 
-use crate::message::{BLOCK_TABLE, DDB_ID, body_with, message_with};
+use crate::message::{BLOCK_TABLE, DDB_ID, body_with, body_with_right, message_with};
 use crate::writing::{RESERVED, message};
 use section_form::{LongForm, long_section};
 use ssu_io::NoMemory;
@@ -71,6 +72,14 @@ fn section_of(section: &[u8]) -> Option<Ddb<'_>>
     message_of(body_with(section, BLOCK_TABLE)?)
 }
 
+#[tactic(auto, unfolding(crate::specs::Block::ddb))]
+fn right_section_of(section: &[u8]) -> Option<Ddb<'_>>
+    requires { IsRight section.now }
+    ensures { Reads ddb_view result (ddb_format.of section.now) }
+{
+    message_of(body_with_right(section, BLOCK_TABLE)?)
+}
+
 impl<'a> Ddb<'a> {
     /// The DDB that the section is.
     pub fn read(section: &'a [u8]) -> Option<Ddb<'a>>
@@ -78,6 +87,17 @@ impl<'a> Ddb<'a> {
         ensures only { (d : DdbFields) → ddb_format.Spells d section.now → option_map ddb_view result ≡ Some d }
     {
         section_of(section)
+    }
+
+    /// The DDB that a right section is: what `read` answers, without the time of a CRC.
+    ///
+    /// A section that a hearer gives out is right.
+    pub fn read_right(section: &'a [u8]) -> Option<Ddb<'a>>
+        requires right { IsRight section.now }
+        ensures found { IfSome result (λ d. ddb_format.Spells (ddb_view d) section.now) }
+        ensures only { (d : DdbFields) → ddb_format.Spells d section.now → option_map ddb_view result ≡ Some d }
+    {
+        right_section_of(section)
     }
 }
 

@@ -6,9 +6,10 @@ ghost use Rattle.wire.specs.Format.{only, whole_such};
 ghost use Rattle.wire.specs.Laws.{IsPrefixFree};
 ghost use Rattle.wire.specs.Read.{Reads};
 ghost use Rattle.section_form.specs.Long.{long_form};
+ghost use Rattle.section_form.specs.Section.{IsRight};
 ghost use Rattle.dsmcc_msg.specs.Message.{message, has_id, has_table, body_of};
 
-use section_form::long;
+use section_form::{long, long_of_right};
 use wire::{raw_at, u8_at, u16_at, u32_at};
 
 // What every message has at its front.
@@ -84,6 +85,18 @@ pub(crate) fn body_with(section: &[u8], table: u8) -> Option<&[u8]>
     ensures { Reads (λ x. x.now) result (option_map body_of ((whole_such (has_table table) long_form).of section.now)) }
 {
     let form = long(section)?;
+    if form.table != table {
+        return None;
+    }
+    Some(form.body)
+}
+
+/// The same of a right section, whose CRC is not computed again.
+pub(crate) fn body_with_right(section: &[u8], table: u8) -> Option<&[u8]>
+    requires { IsRight section.now }
+    ensures { Reads (λ x. x.now) result (option_map body_of ((whole_such (has_table table) long_form).of section.now)) }
+{
+    let form = long_of_right(section)?;
     if form.table != table {
         return None;
     }

@@ -1,7 +1,7 @@
 -- The PIDs of a plan's sections: at most seven.
 use Rattle.std.specs.Prelude.{ℕ, List, [], ◌∷◌, Option, Some, None}
 use Rattle.head_plan.specs.Plans.{PlanData}
-use Rattle.head_carousel.specs.Signals.{bat_pid, nit_pid, pat_pid, time_pid}
+use Rattle.si_table.specs.Pids.{pat_pid, nit_pid, bat_pid, time_pid}
 
 abbrev pub pid_of_notices : Option ℕ → List ℕ
 pid_of_notices None = []

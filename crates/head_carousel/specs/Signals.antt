@@ -4,28 +4,15 @@ use Rattle.std.specs.Prelude.{ℕ, List, [], ◌∷◌, ◌++◌, Option, Some, 
 use Rattle.std.specs.List.{flat_map}
 use Rattle.head_plan.specs.Plans.{PlanData}
 use Rattle.si_desc.specs.Written.{component_bytes, info_bytes, linkage_bytes, service_of}
+use Rattle.si_table.specs.Pids.{pat_pid, nit_pid, bat_pid, time_pid}
 use Rattle.si_table.specs.Tables.{ProgramFields, StreamFields}
-use Rattle.si_table.specs.Times.{TimeFields}
+use Rattle.ssu_time.specs.UtcField.{TimeFields}
 use Rattle.si_table.specs.Written.{PmtDraft, net_bytes, pat_bytes, pmt_bytes, stream_bytes, tdt_bytes}
 use Rattle.timed_section.specs.TimedSection.{TimedSection}
 use Rattle.head_carousel.specs.Notice.{carousel_tag, notice_section}
 
 abbrev pub timed : ℕ → ℕ → List ℕ → TimedSection
 timed pid period bytes = record { pid = pid; period = period; bytes = bytes }
-
--- ---- PIDs that are the same in each transport stream
-
-abbrev pub pat_pid : ℕ
-pat_pid = 0x0000
-
-abbrev pub nit_pid : ℕ
-nit_pid = 0x0010
-
-abbrev pub bat_pid : ℕ
-bat_pid = 0x0011
-
-abbrev pub time_pid : ℕ
-time_pid = 0x0014
 
 -- ---- the sections
 

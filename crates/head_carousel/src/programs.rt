@@ -4,7 +4,7 @@ ghost use Rattle.std.specs.List.{All};
 ghost use Rattle.si_desc.specs.Descriptors.{IsRow};
 ghost use Rattle.si_desc.specs.Written.{component_bytes, info_bytes};
 ghost use Rattle.si_table.specs.Written.{pat_bytes, pmt_bytes, stream_bytes, tdt_bytes};
-ghost use Rattle.si_table.specs.Views.{time_view};
+ghost use Rattle.ssu_time.specs.UtcField.{time_view};
 ghost use Rattle.head_carousel.specs.Signals.{pmt_draft, programs, stream, streams_of};
 ghost use Rattle.head_carousel.specs.WellMade.{IsReady, IsWellMade};
 

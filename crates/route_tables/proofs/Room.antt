@@ -6,7 +6,7 @@ use Rattle.std.proofs.lemmas.List.{length-append, length-take-le}
 use Rattle.std.proofs.lemmas.Bool.Decides.{nat_tests}
 use Rattle.wire.specs.Format.{SpellsEach}
 use Rattle.wire.specs.Read.{Reads}
-use Rattle.section_form.specs.Long.{LongFields, long_form, long_head, behind_length, current_version}
+use Rattle.section_form.specs.Long.{LongFields, long_form, unchecked_form, long_head, behind_length, current_version}
 use Rattle.si_table.specs.declared.pmt.Pmt.{Pmt}
 use Rattle.si_table.specs.Tables.{PmtFields, StreamFields, stream, pmt, pmt_body}
 use Rattle.si_table.specs.Exact.{pmt_exact}
@@ -17,7 +17,7 @@ in_two : (p front back : List ℕ) → p ≡ front ++ back → length p ≡ leng
 in_two p front back e = ap length e ∙ length-append front back
 
 long_room : (head : LongFields) (section : List ℕ) → long_form.Spells head section → 12 + length head.body ≤ length section
-unfolding long_form long_head behind_length current_version
+unfolding long_form unchecked_form long_head behind_length current_version
 long_room head section s =
     let x = s.1.0 in
     let is = s.1.1 in

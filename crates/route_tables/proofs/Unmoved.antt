@@ -4,10 +4,11 @@ use Rattle.std.specs.Option.{option_and_then, option_map}
 use Rattle.std.proofs.lemmas.Bool.Decides.{nat_tests}
 use Rattle.ts_section.specs.Events.{Heard}
 use Rattle.si_desc.specs.declared.linkages.ServiceRef.{ServiceRef}
+use Rattle.si_table.specs.Pids.{pat_pid, nit_pid, bat_pid, time_pid}
 use Rattle.si_table.specs.Tables.{NetFields, pat, pmt, net}
 use Rattle.ssu_unt.specs.Table.{unt}
 use Rattle.route_tables.specs.Values.{Receiver, ProgramFound, ComponentFound}
-use Rattle.route_tables.specs.Said.{on, pat_pid, nit_pid, bat_pid, time_pid, time_in, time_said}
+use Rattle.route_tables.specs.Said.{on, time_in, time_said}
 use Rattle.route_tables.specs.Levels.{has_notice, level_1, level_2, level_3, notice, entries_of, level_4, time_now, level_5}
 use Rattle.route_tables.specs.Next.{first_loop, loop_in, services_after, pat_in, decided, notice_table, unt_in}
 use Rattle.route_tables.specs.Standing.{pid_of_program, pid_of_component}

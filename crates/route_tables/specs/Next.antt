@@ -5,13 +5,14 @@ use Rattle.std.specs.List.{list_any}
 use Rattle.std.specs.Option.{option_map, option_or, option_and_then}
 use Rattle.ts_section.specs.Events.{Heard}
 use Rattle.si_desc.specs.declared.linkages.ServiceRef.{ServiceRef}
+use Rattle.si_table.specs.Pids.{pat_pid}
 use Rattle.si_table.specs.Tables.{PatFields, pat, PmtFields, pmt, NetFields, net}
 use Rattle.ssu_compat.specs.declared.me.BoxId.{BoxId}
 use Rattle.ssu_unt.specs.Table.{UntFields, unt}
 use Rattle.ssu_unt.specs.Targeting.{Me, TargetFields, targeted}
 use Rattle.ssu_unt.specs.Views.{me_view}
 use Rattle.route_tables.specs.Values.{ProgramFound, ComponentFound, NoticeFound, same_service}
-use Rattle.route_tables.specs.Said.{on, pat_pid, is_network_table, linked_services, pid_in_pat, component_in_pmt, is_notice_for, time_said}
+use Rattle.route_tables.specs.Said.{on, is_network_table, linked_services, pid_in_pat, component_in_pmt, is_notice_for, time_said}
 use Rattle.route_tables.specs.Levels.{has_notice}
 
 -- a section, heard on this PID

@@ -9,27 +9,14 @@ use Rattle.si_desc.specs.declared.linkages.ServiceRef.{ServiceRef}
 use Rattle.si_desc.specs.Descriptors.{DescFields, whole_descriptors, first_body, stream_identifier}
 use Rattle.si_desc.specs.Linkage.{LinkageFields, OuiFields, linkage, update_ouis, lists}
 use Rattle.si_desc.specs.SsuInfo.{InfoFields, update_infos}
+use Rattle.si_table.specs.Pids.{pat_pid, nit_pid, bat_pid, time_pid}
 use Rattle.si_table.specs.Tables.{ProgramFields, PatFields, pat, StreamFields, PmtFields, pmt, NetFields, net}
-use Rattle.si_table.specs.Times.{TimeFields, TotFields, tdt, tot}
-use Rattle.ssu_time.specs.UtcTime.{utc_seconds}
+use Rattle.si_table.specs.Times.{TotFields, tdt, tot}
+use Rattle.ssu_time.specs.UtcField.{TimeFields, seconds_of}
 use Rattle.ssu_unt.specs.Table.{UntFields, unt}
 use Rattle.ssu_unt.specs.Targeting.{TargetFields, targeted}
 use Rattle.ssu_unt.specs.Views.{me_view}
 use Rattle.route_tables.specs.Values.{Receiver, ProgramFound, TaggedStream, ComponentFound}
-
--- ---- the PIDs on which tables are heard: ISO/IEC 13818-1, 2.4.4.3; EN 300 468, 5.1.3
-
-abbrev pub pat_pid : ℕ
-pat_pid = 0x0000
-
-abbrev pub nit_pid : ℕ
-nit_pid = 0x0010
-
-abbrev pub bat_pid : ℕ
-bat_pid = 0x0011
-
-abbrev pub time_pid : ℕ
-time_pid = 0x0014
 
 -- the section, where it was heard on this PID
 abbrev pub on : ℕ → Heard → Option (List ℕ)
@@ -163,9 +150,6 @@ unfoldable pub entries_said : Receiver → ℕ → ℕ → Heard → Option (Lis
 entries_said me pid number item = option_and_then (entries_under me number) (notice_in me pid item)
 
 -- ---- The time: EN 300 468, 5.2.5 and 5.2.6. TDT and TOT are heard on PID 0x0014.
-
-abbrev pub seconds_of : TimeFields → ℕ
-seconds_of t = utc_seconds t.mjd t.second
 
 abbrev pub time_of : TotFields → TimeFields
 time_of t = t.time

@@ -2,11 +2,11 @@
 use Rattle.std.specs.Prelude.{◌≡◌, ◌≢◌, ℕ, List, ◌∷◌, Some, None}
 use Rattle.std.specs.Option.{option_map}
 use Rattle.ts_section.specs.Events.{Heard}
+use Rattle.si_table.specs.Pids.{pat_pid, nit_pid, bat_pid, time_pid}
 use Rattle.si_table.specs.Tables.{pat, pmt, net}
 use Rattle.si_table.specs.Times.{tdt, tot}
 use Rattle.ssu_unt.specs.Table.{unt}
 use Rattle.route_tables.specs.Values.{Receiver}
-use Rattle.route_tables.specs.Said.{pat_pid, nit_pid, bat_pid, time_pid}
 use Rattle.route_tables.specs.Levels.{level_1, level_2, level_3, notice, level_4, time_now, level_5}
 use Rattle.route_tables.specs.Standing.{pid_of_program, pid_of_component}
 

@@ -2,7 +2,7 @@
 
 ghost use Rattle.std.specs.Prelude.{◌≡◌};
 ghost use Rattle.std.specs.Option.{option_map, option_or};
-ghost use Rattle.si_table.specs.Views.{time_view};
+ghost use Rattle.ssu_time.specs.UtcField.{time_view};
 ghost use Rattle.route_tables.specs.Said.{time_in, time_said};
 ghost use Rattle.route_tables.specs.Next.{heard_on, time_after};
 

@@ -4,7 +4,7 @@ ghost use Rattle.std.specs.Prelude.{◌≡◌, ◌==◌, ◌||◌, false, List, 
 ghost use Rattle.std.specs.Option.{option_map};
 ghost use Rattle.ts_section.specs.Events.{Heard};
 ghost use Rattle.route_tables.specs.Values.{Receiver};
-ghost use Rattle.route_tables.specs.Said.{pat_pid, nit_pid, bat_pid, time_pid};
+ghost use Rattle.si_table.specs.Pids.{pat_pid, nit_pid, bat_pid, time_pid};
 ghost use Rattle.route_tables.specs.Parts.{is_number};
 ghost use Rattle.route_tables.specs.Unmoved.{IsElsewhere};
 ghost use Rattle.route_tables.specs.Levels.{level_1, level_2, level_3, level_4, level_5};

@@ -5,7 +5,7 @@ use Rattle.ts_crc.specs.Crc.{crc_of}
 use Rattle.ts_crc.proofs.CrcLaws.{crc_appended}
 use Rattle.wire.specs.Format.{sized, before, rest}
 use Rattle.wire.specs.Number.{bytes_of, number1_put, number2_put}
-use Rattle.section_form.specs.Long.{LongFields, long_form, long_form_exact, long_head, current_version, behind_length}
+use Rattle.section_form.specs.Long.{LongFields, long_form, unchecked_form, long_form_exact, long_head, current_version, behind_length}
 use Rattle.section_form.specs.Section.{IsRightSection, section_length, table_id}
 use Rattle.section_form.specs.Written.{head_bits, long_text, long_bytes}
 
@@ -107,7 +107,7 @@ unfolding long_bytes
 crc_zero second_bit head = crc_appended (long_text second_bit head)
 
 pub long_spelled : (second_bit : Bool) (head : LongFields) → Fits head → long_form.Spells head (long_bytes second_bit head)
-unfolding long_form long_bytes long_text inside_bytes
+unfolding long_form unchecked_form long_bytes long_text inside_bytes
 long_spelled second_bit head fits =
     let crc = crc_of (long_text second_bit head) in (
       eq-eqb _ _ (crc_zero second_bit head),

@@ -59,8 +59,12 @@ fields_of x = record {
 abbrev pub has_right_crc : List ℕ → Bool
 has_right_crc section = crc_of section == 0
 
+-- what the long form is beside its CRC
+unfoldable pub unchecked_form : Whole LongFields
+unchecked_form = whole_reads fields_of (only (number 1 & sized long_head behind_length))
+
 unfoldable pub long_form : Whole LongFields
-long_form = checked has_right_crc (whole_reads fields_of (only (number 1 & sized long_head behind_length)))
+long_form = checked has_right_crc unchecked_form
 
 -- ---- the format is exact
 
@@ -78,8 +82,11 @@ behind_length_exact =
     then_exact number2 (λ _. then_exact current_version_exact (λ _. then_exact number1 (λ _. then_exact number1 (λ _.
     before_exact 4 rest_exact))))
 
+pub unchecked_form_exact : IsWhole unchecked_form
+unfolding unchecked_form
+unchecked_form_exact =
+    whole_reads_exact fields_of (only_exact (pair_exact number1 (sized_exact long_head_exact behind_length_exact)))
+
 pub long_form_exact : IsWhole long_form
 unfolding long_form
-long_form_exact =
-    checked_exact has_right_crc
-    (whole_reads_exact fields_of (only_exact (pair_exact number1 (sized_exact long_head_exact behind_length_exact))))
+long_form_exact = checked_exact has_right_crc unchecked_form_exact

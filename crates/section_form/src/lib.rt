@@ -11,6 +11,6 @@ mod tests;
 mod writing;
 
 pub use fault::MakeFault;
-pub use reading::{LongForm, long};
+pub use reading::{LongForm, long, long_of_right};
 pub use right::{is_right, section_ends};
 pub use writing::long_section;

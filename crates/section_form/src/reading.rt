@@ -7,7 +7,8 @@
 ghost use Rattle.std.specs.Prelude.{◌≡◌, Some, IfSome};
 ghost use Rattle.std.specs.Option.{option_map};
 ghost use Rattle.wire.specs.Read.{Reads};
-ghost use Rattle.section_form.specs.Long.{LongFields, long_form, long_head, current_version, behind_length};
+ghost use Rattle.section_form.specs.Long.{LongFields, long_form, unchecked_form, long_head, current_version, behind_length};
+ghost use Rattle.section_form.specs.Section.{IsRight};
 ghost use Rattle.section_form.specs.Shown.{fields};
 
 use ts_crc::crc;
@@ -45,6 +46,18 @@ pub fn long(section: &[u8]) -> Option<LongForm<'_>>
     fields_in(section)
 }
 
+/// The fields of a right section in the long form: what `long` answers, without the time of a CRC.
+///
+/// A section that a hearer gives out is right.
+pub fn long_of_right(section: &[u8]) -> Option<LongForm<'_>>
+    requires right { IsRight section.now }
+    ensures found { IfSome result (λ f. long_form.Spells (fields f) section.now) }
+    ensures only { (x : LongFields) → long_form.Spells x section.now → option_map fields result ≡ Some x }
+    ensures reads { Reads fields result (long_form.of section.now) }
+{
+    unchecked_in(section)
+}
+
 #[tactic(auto, unfolding(crate::specs::Long::long_form))]
 fn fields_in(section: &[u8]) -> Option<LongForm<'_>>
     ensures { Reads fields result (long_form.of section.now) }
@@ -52,6 +65,14 @@ fn fields_in(section: &[u8]) -> Option<LongForm<'_>>
     if crc(section) != 0 {
         return None;
     }
+    unchecked_in(section)
+}
+
+/// The fields of the long form, whatever its CRC.
+#[tactic(auto, unfolding(crate::specs::Long::unchecked_form))]
+fn unchecked_in(section: &[u8]) -> Option<LongForm<'_>>
+    ensures { Reads fields result (unchecked_form.of section.now) }
+{
     let (table, bytes) = u8_at(section)?;
     let (length, bytes) = length_at(bytes)?;
     let (inside, rest) = raw_at(bytes, length as usize)?;

@@ -3,9 +3,10 @@ use Rattle.std.proofs.Common.{◌≡◌, ℕ, zero, suc, ◌++◌, List, [], ◌
 use Rattle.std.proofs.lemmas.Bool.{eqb-true}
 use Rattle.wire.specs.Format.{IsPair}
 use Rattle.wire.specs.Number.{number, number_of}
-use Rattle.section_form.specs.Long.{LongFields, long_form}
+use Rattle.section_form.specs.Long.{LongFields, long_form, unchecked_form}
 use Rattle.si_table.specs.Tables.{NetFields, PatFields, PmtFields, net, pat, pmt}
-use Rattle.si_table.specs.Times.{TimeFields, TotFields, tdt, tot}
+use Rattle.ssu_time.specs.UtcField.{TimeFields}
+use Rattle.si_table.specs.Times.{TotFields, tdt, tot}
 use Rattle.si_table.specs.Exact.{net_exact, pat_exact, pmt_exact, tdt_exact, tot_exact}
 use Rattle.ssu_unt.specs.Table.{UntFields, unt}
 use Rattle.ssu_unt.specs.Exact.{unt_exact}
@@ -29,7 +30,7 @@ same_table : (section : List ℕ) (m n : ℕ) → Begins section m → m ≡ n �
 same_table section m n b e = subst (Begins section) e b
 
 pub long_begins : (f : LongFields) (section : List ℕ) → long_form.Spells f section → Begins section f.table
-unfolding long_form
+unfolding long_form unchecked_form
 long_begins f section s = same_table section s.1.0.0 f.table (pair_begins _ section s.1.0.0 s.1.2) (ap (λ (g : LongFields). g.table) s.1.1)
 
 table_begins : (f : LongFields) (section : List ℕ) (n : ℕ) → eqb f.table n ≡ true → long_form.Spells f section → Begins section n

@@ -1,14 +1,16 @@
 -- A section that a reader accepts is of its kind, so one without a kind is accepted by none.
 use Rattle.std.specs.Prelude.{IfNone}
+use Rattle.std.specs.Option.{option_or}
 use Rattle.std.proofs.Common.{◌≡◌, ℕ, ◌<◌, arith, get_or, length, List, [], ◌∷◌, Option, Some, None, sym, refl, ◌∙◌, ◌⊎◌, inl, inr, subst}
 use Rattle.ssu_line.specs.declared.section_kind.SectionKind.{SectionKind}
 use Rattle.ssu_line.specs.declared.section_kind.SectionKind.TheVariants.{Pat, Pmt, Nit, Bat, Tdt, Tot, Unt, Dsi, Dii, Ddb}
 use Rattle.si_table.specs.Tables.{NetFields, PatFields, PmtFields, net, pat, pmt}
-use Rattle.si_table.specs.Times.{TimeFields, TotFields, tdt, tot}
+use Rattle.ssu_time.specs.UtcField.{TimeFields}
+use Rattle.si_table.specs.Times.{TotFields, tdt, tot}
 use Rattle.ssu_unt.specs.Table.{UntFields, unt}
 use Rattle.dsmcc_msg.specs.Control.{DiiFields, DsiFields, dii, dsi}
 use Rattle.dsmcc_msg.specs.Block.{DdbFields, ddb}
-use Rattle.section_kind.specs.Kinds.{IsOfNoKind, kind_by, kind_of, dsi_kind, nit_or_bat, or_else, time_of}
+use Rattle.section_kind.specs.Kinds.{IsOfNoKind, kind_by, kind_of, dsi_kind, nit_or_bat, time_of}
 use Rattle.section_kind.proofs.Heads.{Begins, pat_begins, pmt_begins, net_begins, tdt_begins, tot_begins, unt_begins, dsi_begins, dii_begins, ddb_begins}
 
 -- the section has a kind
@@ -50,7 +52,7 @@ dsi_has : (rest : List ℕ) (d : DsiFields) → dsi.of (0x3B ∷ rest) ≡ Some 
 unfolding kind_of
 dsi_has rest d e = (Dsi, rw e refl)
 
-or_has : (first : Option SectionKind) (k : SectionKind) → (kind : SectionKind) × (or_else first (Some k) ≡ Some kind)
+or_has : (first : Option SectionKind) (k : SectionKind) → (kind : SectionKind) × (option_or first (Some k) ≡ Some kind)
 or_has (Some kind) k = (kind, refl)
 or_has None k = (k, refl)
 

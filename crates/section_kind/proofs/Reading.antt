@@ -2,9 +2,9 @@
 use Rattle.std.proofs.Common.{◌≡◌, ℕ, ◌%◌, List, Option, Some, None, refl, arith}
 use Rattle.wire.specs.Format.{Whole}
 use Rattle.wire.specs.Laws.{IsWhole}
+use Rattle.ssu_time.specs.UtcField.{time_view}
 use Rattle.ssu_time.specs.declared.utc_time.Utc.{Utc}
 use Rattle.ssu_time.proofs.UtcLemmas.{same_utc}
-use Rattle.si_table.specs.Views.{time_view}
 use Rattle.section_kind.specs.Kinds.{time_of}
 
 pub unread : {A : Type 0} {w : Whole A} → IsWhole w → (section : List ℕ) → ((x : A) → w.Spells x section → ⊥) → w.of section ≡ None

@@ -1,13 +1,14 @@
 -- What a section is, by its table_id and, of the control messages, its messageId: of a kind exactly where that reader accepts it.
 use Rattle.std.specs.Prelude.{◌≡◌, ℕ, ◌%◌, zero, suc, ◌==◌, ◌||◌, List, [], ◌∷◌, Option, Some, None, if◌then◌else◌, refl}
-use Rattle.std.specs.Option.{option_map}
+use Rattle.std.specs.Option.{option_map, option_or}
 use Rattle.std.proofs.Common.{lit<}
 use Rattle.std.proofs.Math.Nat.{mod-lt}
 use Rattle.ssu_line.specs.declared.section_kind.SectionKind.{SectionKind}
 use Rattle.ssu_line.specs.declared.section_kind.SectionKind.TheVariants.{Pat, Pmt, Nit, Bat, Tdt, Tot, Unt, Dsi, Dii, Ddb}
+use Rattle.ssu_time.specs.UtcField.{TimeFields}
 use Rattle.ssu_time.specs.declared.utc_time.Utc.{Utc}
 use Rattle.si_table.specs.Tables.{NetFields, net, pat, pmt}
-use Rattle.si_table.specs.Times.{TimeFields, tdt, tot}
+use Rattle.si_table.specs.Times.{tdt, tot}
 use Rattle.ssu_unt.specs.Table.{unt}
 use Rattle.dsmcc_msg.specs.Control.{dii, dsi}
 use Rattle.dsmcc_msg.specs.Block.{ddb}
@@ -44,13 +45,9 @@ dsi_kind section = option_map (λ _. Dsi) (dsi.of section)
 abbrev pub dii_kind : List ℕ → Option SectionKind
 dii_kind section = option_map (λ _. Dii) (dii.of section)
 
-abbrev pub or_else : {A : Type 0} → Option A → Option A → Option A
-or_else (Some x) other = Some x
-or_else None other = other
-
 -- the messageId tells them apart
 abbrev pub control_kind : List ℕ → Option SectionKind
-control_kind section = or_else (dsi_kind section) (dii_kind section)
+control_kind section = option_or (dsi_kind section) (dii_kind section)
 
 abbrev pub block_kind : List ℕ → Option SectionKind
 block_kind section = option_map (λ _. Ddb) (ddb.of section)

@@ -13,13 +13,14 @@ use Rattle.section_form.specs.Long.{LongFields, long_form, long_form_exact}
 use Rattle.section_form.specs.Written.{long_bytes}
 use Rattle.section_form.proofs.LongLaws.{Fits, long_spelled, length-long_bytes}
 use Rattle.si_desc.specs.Descriptors.{row, descriptor, IsRow}
+use Rattle.ssu_time.specs.UtcField.{TimeFields}
 use Rattle.ssu_time.specs.UtcTime.{utc_bytes}
+use Rattle.ssu_time.proofs.UtcFieldLaws.{utc_put}
 use Rattle.si_table.specs.Exact.{stream_exact}
 use Rattle.si_table.specs.Rows.{IsStreamRow}
 use Rattle.si_table.specs.Tables.{table_of, ProgramFields, program, is_pat, pat, StreamFields, stream, is_pmt, pmt_body, pmt, net_entry, is_net, net_body, net}
-use Rattle.si_table.specs.Times.{TimeFields, utc, short_head, tdt, tot_inside, tot}
+use Rattle.si_table.specs.Times.{short_head, tdt, tot_inside, tot}
 use Rattle.si_table.specs.Written.{pid_bytes, length_bytes, head, program_bytes, stream_bytes, pmt_body_bytes, entry_bytes, net_body_bytes, tdt_bytes, tot_text, tot_bytes, tot_section_length}
-use Rattle.si_table.proofs.Decimals.{time_written}
 
 pair : {F S : List ℕ → Type 0} (a b : List ℕ) → F a → S b → IsPair F S (a ++ b)
 pair a b f s = record { front = a; back = b; parts = refl; first = f; second = s }
@@ -134,10 +135,6 @@ net_put table id info ts network s which i few r t n e =
     )
 
 -- ---- times
-
-utc_put : (t : TimeFields) → t.second < 86400 → utc.Spells t (utc_bytes t.mjd t.second)
-unfolding utc
-utc_put t lt = let w = time_written t.mjd t.second lt in (utc_bytes t.mjd t.second, w.1, (w.0, (refl, refl)))
 
 short_put : (n : ℕ) → n < 2 ^ 12 → short_head.Spells n (bytes_of 2 (7 * 2 ^ 12 + n))
 unfolding short_head

@@ -1,13 +1,14 @@
 -- Each format reads what is spelled so, and nothing else.
-use Rattle.std.specs.Prelude.{Bool, refl}
+use Rattle.std.specs.Prelude.{Bool}
 use Rattle.wire.specs.Format.{Whole}
 use Rattle.wire.specs.Laws.{IsFront, IsWhole, reads_exact, such_exact, fixed_exact, pair_exact, then_exact, sized_exact, only_exact, before_exact, kept_exact, to_end_exact, checked_exact, whole_such_exact, whole_reads_exact}
-use Rattle.wire.specs.Number.{number1, number2, low12, low13, raw_exact}
-use Rattle.section_form.specs.Long.{LongFields, long_form_exact, has_right_crc}
+use Rattle.wire.specs.Number.{number1, number2, low12, low13}
+use Rattle.section_form.specs.Long.{LongFields, long_form_exact, has_right_crc, length_of}
 use Rattle.si_desc.specs.Exact.{row_exact}
-use Rattle.si_table.specs.Inside.{inside_exact}
+use Rattle.ssu_time.specs.UtcField.{utc_exact}
+use Rattle.wire.specs.Inside.{inside_exact}
 use Rattle.si_table.specs.Tables.{fits_a_table, body_of, table_of, program_fields, program, is_pat, pat_fields, pat, stream_fields, stream, is_pmt, pmt_body, pmt_fields, pmt, net_entry_fields, net_entry, is_net, net_body, net_fields, net}
-use Rattle.si_table.specs.Times.{is_time, time_fields, utc, is_short, length_of, short_head, tdt_fields, tdt, tot_fields, tot_inside, tot}
+use Rattle.si_table.specs.Times.{is_short, short_head, tdt_fields, tdt, tot_fields, tot_inside, tot}
 
 pub table_exact : {A : Type 0} (is_head : LongFields → Bool) {body : Whole A} → IsWhole body → IsWhole (table_of is_head body)
 table_exact is_head h = checked_exact fits_a_table (inside_exact body_of (whole_such_exact is_head long_form_exact) h)
@@ -43,10 +44,6 @@ net_body_exact = only_exact (pair_exact (sized_exact low12 (kept_exact row_exact
 pub net_exact : IsWhole net
 unfolding net
 net_exact = whole_reads_exact net_fields (table_exact is_net net_body_exact)
-
-pub utc_exact : IsFront utc
-unfolding utc
-utc_exact = reads_exact time_fields (such_exact is_time (raw_exact 5 refl))
 
 pub short_head_exact : IsFront short_head
 unfolding short_head

@@ -1,4 +1,4 @@
-pub mod Inside
+pub mod Pids
 pub mod Tables
 pub mod Times
 pub mod Exact

@@ -5,7 +5,7 @@ use Rattle.wire.specs.Format.{Front, Whole, reads, ◌&◌, ◌then◌, sized, o
 use Rattle.wire.specs.Number.{number, low}
 use Rattle.section_form.specs.Long.{LongFields, long_form}
 use Rattle.si_desc.specs.Descriptors.{row}
-use Rattle.si_table.specs.Inside.{inside}
+use Rattle.wire.specs.Inside.{inside}
 
 -- section_length is at most 1021
 abbrev pub fits_a_table : List ℕ → Bool

@@ -1,6 +1,6 @@
 -- What the readers answer, as values without where their bytes lie.
 use Rattle.wire.specs.Items.{items_of}
-use Rattle.ssu_time.specs.declared.utc_time.Utc.{Utc}
+use Rattle.ssu_time.specs.UtcField.{TimeFields, time_view}
 use Rattle.si_table.specs.declared.pat.Program.{Program}
 use Rattle.si_table.specs.declared.pat.Pat.{Pat}
 use Rattle.si_table.specs.declared.pmt.Stream.{Stream}
@@ -10,7 +10,7 @@ use Rattle.si_table.specs.declared.net.Net.{Net}
 use Rattle.si_table.specs.declared.times.Tot.{Tot}
 use Rattle.si_table.specs.declared.times.Tdt.{Tdt}
 use Rattle.si_table.specs.Tables.{ProgramFields, program, PatFields, StreamFields, stream, PmtFields, NetEntryFields, net_entry, NetFields}
-use Rattle.si_table.specs.Times.{TimeFields, TotFields}
+use Rattle.si_table.specs.Times.{TotFields}
 
 abbrev pub program_view : Program → ProgramFields
 program_view p = record { number = p.number; pid = p.pid }
@@ -29,9 +29,6 @@ net_entry_view e = record { ts = e.ts; network = e.network; info = e.info.now }
 
 abbrev pub net_view : Net → NetFields
 net_view n = record { table = n.table; id = n.id; info = n.info.now; entries = items_of net_entry n.entries }
-
-abbrev pub time_view : Utc → TimeFields
-time_view t = record { mjd = t.mjd; second = t.second }
 
 abbrev pub tdt_view : Tdt → TimeFields
 tdt_view t = time_view t.time

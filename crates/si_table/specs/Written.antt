@@ -4,9 +4,9 @@ use Rattle.wire.specs.Number.{bytes_of}
 use Rattle.ts_crc.specs.Crc.{crc_of}
 use Rattle.section_form.specs.Long.{LongFields}
 use Rattle.section_form.specs.Written.{long_bytes}
+use Rattle.ssu_time.specs.UtcField.{TimeFields}
 use Rattle.ssu_time.specs.UtcTime.{utc_bytes}
 use Rattle.si_table.specs.Tables.{ProgramFields, StreamFields}
-use Rattle.si_table.specs.Times.{TimeFields}
 
 -- 3 reserved bits and a PID
 abbrev pub pid_bytes : ℕ → List ℕ

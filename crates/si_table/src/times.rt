@@ -3,11 +3,12 @@
 ghost use Rattle.std.specs.Prelude.{◌≡◌, IfSome, Some};
 ghost use Rattle.std.specs.Option.{option_map};
 ghost use Rattle.wire.specs.Read.{Reads};
-ghost use Rattle.si_table.specs.Times.{TimeFields, TotFields, utc, short_head, tdt, tot, tot_inside};
-ghost use Rattle.si_table.specs.Views.{time_view, tdt_view, tot_view};
+ghost use Rattle.ssu_time.specs.UtcField.{TimeFields, time_view};
+ghost use Rattle.si_table.specs.Times.{TotFields, short_head, tdt, tot, tot_inside};
+ghost use Rattle.si_table.specs.Views.{tdt_view, tot_view};
 
 use crate::fields::row_at;
-use ssu_time::{Utc, read_utc};
+use ssu_time::{Utc, utc_at};
 use ts_crc::crc;
 use wire::{raw_at, u8_at, u16_at};
 
@@ -51,17 +52,6 @@ impl<'a> Tot<'a> {
     }
 }
 
-#[tactic(auto, unfolding(crate::specs::Times::utc))]
-fn time_at(bytes: &[u8]) -> Option<(Utc, &[u8])>
-    ensures { Reads (λ x. (time_view x.0, x.1.now)) result (utc.at bytes.now) }
-{
-    let (front, rest) = raw_at(bytes, 5)?;
-    let Some(time) = read_utc(&[front[0], front[1], front[2], front[3], front[4]]) else {
-        return None;
-    };
-    Some((time, rest))
-}
-
 /// section_length, behind section_syntax_indicator 0.
 #[tactic(auto, unfolding(crate::specs::Times::short_head))]
 fn short_head_at(bytes: &[u8]) -> Option<(u16, &[u8])>
@@ -84,7 +74,7 @@ fn tdt_of(section: &[u8]) -> Option<Tdt>
     }
     let (length, rest) = short_head_at(rest)?;
     let (inside, rest) = raw_at(rest, length as usize)?;
-    let Some((time, behind)) = time_at(inside) else {
+    let Some((time, behind)) = utc_at(inside) else {
         return None;
     };
     if !behind.is_empty() || !rest.is_empty() {
@@ -101,7 +91,7 @@ fn tot_inside_of<'a>(bytes: &'a [u8]) -> Option<Tot<'a>>
         return None;
     }
     let front = &bytes[..bytes.len() - 4];
-    let Some((time, rest)) = time_at(front) else {
+    let Some((time, rest)) = utc_at(front) else {
         return None;
     };
     let (info, rest) = row_at(rest)?;

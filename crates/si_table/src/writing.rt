@@ -4,9 +4,9 @@ ghost use Rattle.std.specs.Prelude.{◌≡◌, ◌⊎◌, ◌↔◌, ◌<◌, �
 ghost use Rattle.section_form.specs.Long.{long_form};
 ghost use Rattle.section_form.specs.Written.{long_bytes};
 ghost use Rattle.si_desc.specs.Descriptors.{IsRow};
+ghost use Rattle.ssu_time.specs.UtcField.{time_view};
 ghost use Rattle.si_table.specs.Tables.{pat, net};
 ghost use Rattle.si_table.specs.Times.{tdt, tot};
-ghost use Rattle.si_table.specs.Views.{time_view};
 ghost use Rattle.si_table.specs.Written.{head, pat_bytes, net_body_bytes, net_bytes, net_section_length, tdt_bytes, tot_text, tot_bytes, tot_section_length};
 
 use section_form::{LongForm, MakeFault, long_section};

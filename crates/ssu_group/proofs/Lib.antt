@@ -1,3 +1,5 @@
 pub mod LayoutLaws
 pub mod PlaceLaws
 pub mod MapLaws
+pub mod Filling
+pub mod SamePlans

@@ -1,4 +1,4 @@
-//! What the program reads and writes: sources, sinks and shelves, and why their calls fail.
+//! What the program reads and writes: sources and sinks, and why their calls fail.
 #![tactic(auto)]
 
 mod error;

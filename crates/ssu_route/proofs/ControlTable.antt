@@ -3,7 +3,7 @@ use Rattle.std.proofs.Common.{◌≡◌, ℕ, ◌++◌, eqb, true, false, List, 
 use Rattle.std.proofs.lemmas.Bool.{eqb-true}
 use Rattle.wire.specs.Format.{IsPair}
 use Rattle.wire.specs.Number.{number, number_of}
-use Rattle.section_form.specs.Long.{LongFields, long_form}
+use Rattle.section_form.specs.Long.{LongFields, long_form, unchecked_form}
 use Rattle.dsmcc_msg.specs.Control.{DiiFields, DsiFields, dii, dsi}
 use Rattle.dsmcc_msg.specs.Exact.{dii_exact, dsi_exact}
 
@@ -17,7 +17,7 @@ pair_begins : (S : List ℕ → Type 0) (section : List ℕ) (n : ℕ) → IsPai
 pair_begins S section n p = of_one_byte p.front p.back section n p.parts p.first.0 p.first.1
 
 table_first : (f : LongFields) (section : List ℕ) (n : ℕ) → eqb f.table n ≡ true → long_form.Spells f section → get_or section 0 0 ≡ n
-unfolding long_form
+unfolding long_form unchecked_form
 table_first f section n is s =
     pair_begins _ section s.1.0.0 s.1.2 ∙ ap (λ (g : LongFields). g.table) s.1.1 ∙ eqb-true _ _ is
 

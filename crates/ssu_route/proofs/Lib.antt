@@ -11,3 +11,4 @@ pub mod ControlTable
 pub mod Answering
 pub mod Standstill
 pub mod OwnGroup
+pub mod Following

@@ -7,7 +7,8 @@ use Rattle.ts_section.specs.Events.{Heard, is_among}
 use Rattle.dsmcc_msg.specs.Control.{DiiFields, dii, dsi}
 use Rattle.section_kind.specs.Kinds.{IsOfNoKind}
 use Rattle.route_tables.specs.Values.{Receiver, CarouselFound, same_carousel, same_carousel_found, same_number}
-use Rattle.route_tables.specs.Said.{on, pat_pid, nit_pid, bat_pid, time_pid}
+use Rattle.si_table.specs.Pids.{pat_pid, nit_pid, bat_pid, time_pid}
+use Rattle.route_tables.specs.Said.{on}
 use Rattle.route_tables.specs.Levels.{level_2, level_3, level_5}
 use Rattle.route_tables.specs.Standing.{pid_of_carousel, pid_of_component, pid_of_program}
 use Rattle.route_tables.specs.Unmoved.{IsElsewhere, IsUnmoved}

@@ -1,13 +1,14 @@
 -- What can be asked of the levels: the PIDs to listen to, the carousel, the first level without a value, and numbers.
-use Rattle.std.specs.Prelude.{ℕ, ◌&&◌, ◌==◌, Bool, List, [], ◌∷◌, ◌++◌, length, reverse, Option, is_none, option_map, option_to_list, if◌then◌else◌}
+use Rattle.std.specs.Prelude.{ℕ, ◌&&◌, ◌==◌, Bool, List, [], ◌∷◌, ◌++◌, length, map, reverse, Option, is_none, option_map, option_to_list, if◌then◌else◌}
 use Rattle.ts_section.specs.Events.{Event, Listen, Feed, Heard, all_heard}
 use Rattle.dsmcc_msg.specs.Control.{DiiFields}
 use Rattle.ssu_group.specs.Refusal.{total_of}
 use Rattle.ssu_answer.specs.declared.level.Level.{Level}
 use Rattle.ssu_answer.specs.declared.level.Level.TheVariants.{Linkage, Program, Component, Notice, Window, Group, Modules}
 use Rattle.ssu_route.specs.declared.report.Report.{Report}
+use Rattle.route_tables.specs.Next.{heard_on}
 use Rattle.route_tables.specs.Values.{Receiver}
-use Rattle.route_tables.specs.Said.{pat_pid, nit_pid, bat_pid, time_pid}
+use Rattle.si_table.specs.Pids.{pat_pid, nit_pid, bat_pid, time_pid}
 use Rattle.route_tables.specs.Levels.{level_1, level_2, level_3, level_4, level_5}
 use Rattle.route_tables.specs.Standing.{needs_notice, pid_and_type, pid_of_carousel, pid_of_component, pid_of_program, service_and_pid}
 use Rattle.ssu_route.specs.Choosing.{level_6}
@@ -46,6 +47,10 @@ followed me (packet ∷ earlier) = listen_anew me (Feed packet ∷ followed me e
 -- the sections that it hears in these packets, the newest first
 unfoldable pub heard_by : Receiver → List (List ℕ) → List Heard
 heard_by me packets = newest_first (followed me packets)
+
+-- What is heard after these sections of one PID, in their order, came behind what was heard before. The newest stands first.
+abbrev pub after_all : ℕ → List (List ℕ) → List Heard → List Heard
+after_all pid sections before = reverse (map (heard_on pid) sections) ++ before
 
 -- ---- the first level without a value
 

@@ -3,6 +3,7 @@ use Rattle.std.specs.Prelude.{◌≡◌, ℕ, ◌+◌, min, Bool, false, ◌&&�
 use Rattle.std.specs.List.{filter_map, find}
 use Rattle.route_part.specs.Part.{since}
 use Rattle.ts_section.specs.Events.{Heard}
+use Rattle.ssu_answer.specs.Software.{no_software}
 use Rattle.ssu_compat.specs.declared.rule.SwId.{SwId}
 use Rattle.dsmcc_msg.specs.Control.{DiiFields}
 use Rattle.ssu_group.specs.Lays.{IsPlanOf}
@@ -79,10 +80,6 @@ is_group group o = o.group == group
 
 abbrev pub software_of : Offer → Option SwId
 software_of o = o.software
-
--- the software of model 0 and version 0
-abbrev pub no_software : SwId
-no_software = record { model = 0; version = 0 }
 
 -- the software that the first entry with the id of the group offers, or else model 0 and version 0
 unfoldable pub offered_by : ℕ → List Offer → SwId

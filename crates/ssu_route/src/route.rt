@@ -6,7 +6,7 @@ ghost use Rattle.ts_section.specs.Events.{Heard, is_among};
 ghost use Rattle.section_kind.specs.Kinds.{kind_of};
 ghost use Rattle.route_tables.specs.Next.{heard_on};
 ghost use Rattle.route_tables.specs.Values.{Receiver};
-ghost use Rattle.route_tables.specs.Said.{pat_pid, nit_pid, bat_pid, time_pid};
+ghost use Rattle.si_table.specs.Pids.{pat_pid, nit_pid, bat_pid, time_pid};
 ghost use Rattle.route_tables.specs.Levels.{level_2, level_3, level_4, level_5};
 ghost use Rattle.route_tables.specs.Standing.{needs_notice, pid_of_component, pid_of_program};
 ghost use Rattle.ssu_route.specs.Choosing.{level_6, level_7};

@@ -1,3 +1,4 @@
 pub mod DayLemmas
 pub mod TextLemmas
+pub mod UtcFieldLaws
 pub mod UtcLemmas

@@ -23,6 +23,16 @@ fn the_standards_example_is_read_and_written(rt: HostRuntime) -> Result<(), Fail
 }
 
 #[test]
+fn a_time_stands_at_the_front(rt: HostRuntime) -> Result<(), Fail> {
+    let bytes = [0xC0, 0x79, 0x12, 0x45, 0x00, 7];
+    let (time, rest) = utc_at(&bytes).ok_or("no time")?;
+    assert_eq!(rt; time.text(), *b"1993-10-13T12:45:00");
+    assert_eq!(rt; rest.len(), 1);
+    assert!(rt; utc_at(&bytes[..4]).is_none());
+    Ok(())
+}
+
+#[test]
 fn texts_give_their_day_number(rt: HostRuntime) -> Result<(), Fail> {
     for (text, mjd) in [
         ("1858-11-17T00:00:00", 0),

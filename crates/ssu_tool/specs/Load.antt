@@ -5,7 +5,8 @@ use Rattle.ssu_answer.specs.declared.chosen.Chosen.{Chosen}
 use Rattle.ssu_status.specs.Status.{OnDone, OnNothing, OnIncomplete, OnBadModule, OnReadFault, OnWriteFault, OnTooLong, OnNoMemory}
 use Rattle.tool_load.specs.declared.verdict.Verdict.{Verdict}
 use Rattle.tool_load.specs.declared.verdict.Verdict.TheVariants.{Loaded, Nothing, Incomplete, BadModule}
-use Rattle.tool_load.specs.Load.{IsOpen, IsChosen, IsUnchosen, HearsIn, HearsAtPacket, IsWithin, IsOneMore, ComesOf}
+use Rattle.ts_input.specs.Packets.{IsOneMore, IsWithin}
+use Rattle.tool_load.specs.Load.{IsOpen, IsChosen, IsUnchosen, HearsIn, HearsAtPacket, ComesOf}
 use Rattle.tool_load.specs.Printed.{is_loaded, PutsPart}
 use Rattle.tool_load.specs.Told.{Tells, OnNoImage, OnNoVerdict, IsAnswer, IsUnfailed}
 use Rattle.ssu_status.specs.declared.status.Status.{Status}

@@ -1,41 +1,14 @@
 -- The written descriptors are read back.
-use Rattle.std.proofs.Common.{◌≡◌, ℕ, ◌+◌, ◌*◌, ◌/◌, ◌%◌, ◌<◌, ◌≤◌, ◌^◌, Bool, true, false, ◌&&◌, cond, eqb, [], ◌++◌, refl, arith}
-use Rattle.std.proofs.lemmas.Bool.{eqb-true, le-leb}
+use Rattle.std.proofs.Common.{◌≡◌, ℕ, ◌*◌, ◌/◌, ◌%◌, ◌<◌, ◌^◌, Bool, true, false, cond, eqb, [], ◌++◌, refl, arith}
+use Rattle.std.proofs.lemmas.Bool.{eqb-true}
 use Rattle.si_desc.proofs.Puts.{desc_put}
-use Rattle.ssu_time.specs.UtcTime.{bcd, decimal, utc_bytes, utc_seconds}
+use Rattle.ssu_time.specs.UtcField.{time_view}
+use Rattle.ssu_time.specs.UtcTime.{utc_bytes}
 use Rattle.ssu_time.specs.declared.utc_time.Utc.{Utc}
+use Rattle.ssu_time.proofs.UtcFieldLaws.{utc_put}
 use Rattle.wire.specs.Number.{bytes_of, number1_put, number2_put, number5_put}
-use Rattle.ssu_unt.specs.Descriptors.{utc, scheduling, second_of, is_decimal, is_time, turns_if, update_flag, location, subgroup}
+use Rattle.ssu_unt.specs.Descriptors.{scheduling, turns_if, update_flag, location, subgroup}
 use Rattle.ssu_unt.specs.Announced.{IsLocation, IsScheduling, IsSubgroup, IsUpdate, flag_for, hours_by_turns, hours_window, location_bytes, schedule_flags, scheduling_bytes, subgroup_bytes, update_bytes}
-
--- ---- times
-
-tens : (a b : ℕ) → b < 10 → (a * 16 + b) / 16 ≡ a
-tens a b h = omega arith
-
-ones : (a b : ℕ) → b < 10 → (a * 16 + b) % 16 ≡ b
-ones a b h = omega arith
-
-decimal-bcd : (n : ℕ) → decimal (bcd n) ≡ n
-decimal-bcd n = rw (tens (n / 10) (n % 10) (omega arith), ones (n / 10) (n % 10) (omega arith)) (omega arith)
-
-all_true : (a b c : Bool) → a ≡ true → b ≡ true → c ≡ true → (a && b && c) ≡ true
-all_true a b c p q r = rw (p, q, r) refl
-
-bcd_is_decimal : (n most : ℕ) → n ≤ most → most < 100 → is_decimal (bcd n) most ≡ true
-bcd_is_decimal n most le lt =
-    let t : bcd n / 16 ≡ n / 10 = tens (n / 10) (n % 10) (omega arith) in
-    let o : bcd n % 16 ≡ n % 10 = ones (n / 10) (n % 10) (omega arith) in
-    all_true _ _ _ (le-leb (bcd n / 16) 9 (omega arith)) (le-leb (bcd n % 16) 9 (omega arith)) (le-leb (decimal (bcd n)) most (rw (decimal-bcd n) le))
-
-utc_put : (mjd second : ℕ) → second < 86400 → utc.Spells (utc_seconds mjd second) (utc_bytes mjd second)
-unfolding utc
-utc_put mjd second lt =
-    let day : mjd / 256 * 256 + mjd % 256 ≡ mjd = omega arith in
-    let all : second / 3600 * 3600 + second / 60 % 60 * 60 + second % 60 ≡ second = omega arith in
-    let time : is_time (utc_bytes mjd second) ≡ true = all_true _ _ _ (bcd_is_decimal (second / 3600) 23 (omega arith) (omega arith)) (bcd_is_decimal (second / 60 % 60) 59 (omega arith) (omega arith)) (bcd_is_decimal (second % 60) 59 (omega arith) (omega arith)) in
-    let is : second_of (utc_bytes mjd second) ≡ utc_seconds mjd second = rw (decimal-bcd (second / 3600), decimal-bcd (second / 60 % 60), decimal-bcd (second % 60), day, all) refl in
-    (utc_bytes mjd second, is, (time, (refl, refl)))
 
 -- ---- scheduling
 
@@ -84,18 +57,18 @@ scheduling_put start end period duration s e p d =
       body = body;
       spelled = desc_put 0x01 body (omega arith) (omega arith);
       opens = (
-        (utc_seconds start.mjd start.second, (utc_seconds end.mjd end.second, (schedule_flags period, (period * 3600, hours_by_turns period duration * 3600)))),
+        (time_view start, (time_view end, (schedule_flags period, (period * 3600, hours_by_turns period duration * 3600)))),
         refl,
         record {
           front = utc_bytes start.mjd start.second;
           back = utc_bytes end.mjd end.second ++ behind;
           parts = refl;
-          first = utc_put start.mjd start.second s;
+          first = utc_put (time_view start) s;
           second = record {
             front = utc_bytes end.mjd end.second;
             back = behind;
             parts = refl;
-            first = utc_put end.mjd end.second e;
+            first = utc_put (time_view end) e;
             second = record {
               front = bytes_of 1 (schedule_flags period);
               back = turns;

@@ -1,31 +1,12 @@
 -- The descriptors of a notification table: ETSI TS 102 006 9.6.
-use Rattle.std.specs.Prelude.{ℕ, ◌+◌, ◌*◌, ◌/◌, ◌%◌, ◌&&◌, ◌==◌, if◌then◌else◌, nat_le, bit_and, Bool, true, false, List, Option, Some, None, slice_index, unwrap_or}
+use Rattle.std.specs.Prelude.{ℕ, ◌*◌, ◌/◌, ◌%◌, ◌==◌, if◌then◌else◌, bit_and, Bool, true, false, List, Option, Some, None, unwrap_or}
 use Rattle.std.specs.List.{list_any}
-use Rattle.ssu_time.specs.UtcTime.{decimal}
+use Rattle.ssu_time.specs.UtcField.{TimeFields, seconds_of, utc}
 use Rattle.ssu_time.specs.declared.windows.Window.{Window}
-use Rattle.wire.specs.Format.{Front, Whole, raw, reads, such, fixed, ◌&◌, ◌then◌, rest, only, to_end, whole_reads}
+use Rattle.wire.specs.Format.{Whole, fixed, ◌&◌, ◌then◌, rest, only, to_end, whole_reads}
 use Rattle.wire.specs.Number.{number, number_of}
 
 -- ---- scheduling, tag 0x01
-
--- two decimal digits, whose number is at most the greatest
-abbrev pub is_decimal : ℕ → ℕ → Bool
-is_decimal byte most = nat_le (byte / 16) 9 && nat_le (byte % 16) 9 && nat_le (decimal byte) most
-
--- a time: Modified Julian Date 16; hour, minute and second, two decimal digits each
-abbrev pub is_time : List ℕ → Bool
-is_time bytes =
-    is_decimal (slice_index bytes 2) 23 && is_decimal (slice_index bytes 3) 59 && is_decimal (slice_index bytes 4) 59
-
--- its second, counted from the beginning of day 0
-abbrev pub second_of : List ℕ → ℕ
-second_of bytes =
-    (slice_index bytes 0 * 256 + slice_index bytes 1) * 86400
-    + (decimal (slice_index bytes 2) * 3600 + decimal (slice_index bytes 3) * 60 + decimal (slice_index bytes 4))
-
--- UTC time 40
-unfoldable pub utc : Front ℕ
-utc = reads second_of (such is_time (raw 5))
 
 -- 0 is a second, 1 a minute, 2 an hour and 3 a day
 abbrev pub unit_seconds : ℕ → ℕ
@@ -44,8 +25,8 @@ turns_if true flags = whole_reads (turns_fields flags) (
     rest)
 turns_if false flags = whole_reads no_turns rest
 
-abbrev pub window_fields : ℕ × (ℕ × (ℕ × (ℕ × ℕ))) → Window
-window_fields x = record { start = x.0; end = x.1.0; period = x.1.1.1.0; duration = x.1.1.1.1 }
+abbrev pub window_fields : TimeFields × (TimeFields × (ℕ × (ℕ × ℕ))) → Window
+window_fields x = record { start = seconds_of x.0; end = seconds_of x.1.0; period = x.1.1.1.0; duration = x.1.1.1.1 }
 
 -- start 40; end 40; final_availability 1, periodicity_flag 1, period_unit 2, duration_unit 2,
 -- cycle_time_unit 2; what the flag leads to

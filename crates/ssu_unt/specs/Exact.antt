@@ -5,10 +5,11 @@ use Rattle.std.proofs.lemmas.Bool.{eqb-true}
 use Rattle.section_form.specs.Long.{long_form, long_form_exact}
 use Rattle.si_desc.specs.Exact.{row_exact}
 use Rattle.ssu_compat.specs.Exact.{compat_exact}
+use Rattle.ssu_time.specs.UtcField.{utc_exact}
 use Rattle.wire.specs.Format.{◌>>=◌}
-use Rattle.wire.specs.Laws.{IsFront, IsWhole, bind_some, passed, pair_exact, sized_exact, then_exact, reads_exact, such_exact, whole_reads_exact, rest_exact, fixed_exact, only_exact, kept_exact, to_end_exact}
-use Rattle.wire.specs.Number.{number1, number2, number3, number5, number6, low12, raw_exact}
-use Rattle.ssu_unt.specs.Descriptors.{second_of, is_time, utc, no_turns, turns_fields, turns_if, window_fields, scheduling, flag_of, update_flag, tag_in, location, subgroup, mac_targets}
+use Rattle.wire.specs.Laws.{IsFront, IsWhole, bind_some, passed, pair_exact, sized_exact, then_exact, reads_exact, whole_reads_exact, rest_exact, fixed_exact, only_exact, kept_exact, to_end_exact}
+use Rattle.wire.specs.Number.{number1, number2, number3, number5, number6, low12}
+use Rattle.ssu_unt.specs.Descriptors.{no_turns, turns_fields, turns_if, window_fields, scheduling, flag_of, update_flag, tag_in, location, subgroup, mac_targets}
 use Rattle.ssu_unt.specs.Table.{pair_fields, loop_row, pair, platform_fields, platform, body, unt_fields, unt}
 
 pub loop_exact : IsFront loop_row
@@ -49,10 +50,6 @@ unt_exact = record {
   where
     some_same : {A : Type 0} {x y : A} → Some x ≡ Some y → x ≡ y
     some_same e = cc
-
-pub utc_exact : IsFront utc
-unfolding utc
-utc_exact = reads_exact second_of (such_exact is_time (raw_exact 5 refl))
 
 turns_exact : (b : Bool) (flags : ℕ) → IsWhole (turns_if b flags)
 turns_exact true flags = whole_reads_exact (turns_fields flags) (then_exact (pair_exact number1 (pair_exact number1 number1)) (λ _. rest_exact))

@@ -5,10 +5,10 @@ ghost use Rattle.std.specs.List.{list_any};
 ghost use Rattle.wire.specs.Items.{items_of};
 ghost use Rattle.wire.specs.Number.{number};
 ghost use Rattle.wire.specs.Read.{Reads};
-ghost use Rattle.ssu_unt.specs.Descriptors.{location, mac_targets, names_mac as names, scheduling, subgroup, turns_if, unit_seconds as seconds_of_unit, update_flag, utc, window_of as window};
+ghost use Rattle.ssu_unt.specs.Descriptors.{location, mac_targets, names_mac as names, scheduling, subgroup, turns_if, unit_seconds as seconds_of_unit, update_flag, window_of as window};
 
-use ssu_time::{Window, read_utc};
-use wire::{Item, Items, raw_at, u8_at, u16_at, u40_at, u48_at};
+use ssu_time::{Window, utc_at};
+use wire::{Item, Items, u8_at, u16_at, u40_at, u48_at};
 
 /// The window of a scheduling descriptor: one that is never open, where the body is not of its form.
 #[tactic(auto, unfolding(crate::specs::Descriptors::window_of))]
@@ -35,21 +35,11 @@ fn window_in(body: &[u8]) -> Option<Window>
     let (flags, rest) = u8_at(rest)?;
     let (period, duration) = turns_of(flags, rest)?;
     Some(Window {
-        start,
-        end,
+        start: start.seconds(),
+        end: end.seconds(),
         period,
         duration,
     })
-}
-
-/// The second of a UTC time, counted from the beginning of Modified Julian Date 0.
-#[tactic(auto, unfolding(crate::specs::Descriptors::utc))]
-fn utc_at(bytes: &[u8]) -> Option<(u64, &[u8])>
-    ensures { Reads (λ x. (x.0, x.1.now)) result (utc.at bytes.now) }
-{
-    let (time, rest) = raw_at(bytes, 5)?;
-    let time = read_utc(&[time[0], time[1], time[2], time[3], time[4]])?;
-    Some((time.seconds(), rest))
 }
 
 /// Period and duration in seconds, both 0 without the periodicity flag.

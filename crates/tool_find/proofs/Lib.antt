@@ -1,4 +1,2 @@
-mod Following
-mod Fronts
 mod Pieces
 mod Printing

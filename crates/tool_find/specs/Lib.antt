@@ -1,4 +1,3 @@
-pub mod Heard
 pub mod Lines
 pub mod Ways
 pub mod Answers

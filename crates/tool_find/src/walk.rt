@@ -1,13 +1,11 @@
 //! A box that hears the packets of an input.
-ghost use Rattle.std.specs.Prelude.{◌≡◌, ◌==◌, ℕ, List, [], ◌∷◌, IfOk, IsTrue};
-ghost use Rattle.std.specs.List.{list_any};
+ghost use Rattle.std.specs.Prelude.{◌≡◌, ℕ, List, [], ◌∷◌, IfOk};
 ghost use Rattle.ts_packet.specs.Packet.{pid_of};
-ghost use Rattle.ts_section.specs.Events.{Event, Heard, Listen, Feed, heard, is_among, is_listened};
-ghost use Rattle.ts_section.specs.Hearing.{Hears};
+ghost use Rattle.ts_section.specs.Events.{Heard, Feed, heard};
 ghost use Rattle.route_tables.specs.Values.{Receiver};
 ghost use Rattle.ssu_route.specs.Queries.{followed, heard_by, report as report_of};
 ghost use Rattle.ssu_route.specs.Route.{Stands};
-ghost use Rattle.tool_find.specs.Heard.{after_all};
+ghost use Rattle.ssu_route.specs.Queries.{after_all};
 ghost use Rattle.tool_find.specs.Lines.{receiver_of};
 
 use box_file::BoxFile;
@@ -16,7 +14,7 @@ use ssu_io::NoMemory;
 use ssu_route::{Report, Route};
 use std::alloc::Global;
 use ts_packet::{Packet, Pid};
-use ts_section::{Hearer, PidSet, SectionOut};
+use ts_section::{Hearer, SectionOut};
 
 /// The greatest image that is asked for: 128 MiB.
 const BANK_LEN: u32 = 134_217_728;
@@ -27,7 +25,6 @@ pub(crate) struct Walk {
     pub(crate) hearer: Hearer,
     pub(crate) each: SectionOut,
     pub(crate) route: Route,
-    pub(crate) pids: PidSet,
     pub(crate) running: SwId,
 }
 
@@ -47,7 +44,6 @@ impl Walk {
             hearer,
             each,
             route,
-            pids,
             running: file.software,
         })
     }
@@ -60,7 +56,7 @@ impl Walk {
         self.hearer.feed(packet, &mut self.each);
         hear_each(&mut self.route, &self.each, pid_in(packet), self.running);
         let pids = self.route.listens();
-        follow(&mut self.hearer, &mut self.pids, pids);
+        self.hearer.listen(&pids);
     }
 
     /// What is known at each level.
@@ -86,31 +82,4 @@ fn hear_each(route: &mut Route, each: &SectionOut, pid: Pid, running: SwId)
     for k in 0..each.len() {
         let _change = route.hear(pid, each.get(k), running);
     }
-}
-
-/// Listens to these PIDs from now on, where they are others than before.
-fn follow(hearer: &mut Hearer, pids: &mut PidSet, now: PidSet)
-    ensures hears { (events : List Event) → ((pid : ℕ) → is_listened pid events ≡ is_among pid pids.old.items)
-        → Hears hearer.old events → Hears hearer.new (Listen now.items ∷ events) }
-    ensures kept { pids.new.items ≡ now.items }
-{
-    if are_same(pids, &now) {
-        return;
-    }
-    hearer.listen(&now);
-    *pids = now;
-}
-
-fn are_same(one: &[Pid], other: &[Pid]) -> bool
-    ensures { IsTrue result → one.now ≡ other.now }
-{
-    if one.len() != other.len() {
-        return false;
-    }
-    for k in 0..one.len() {
-        if one[k].get() != other[k].get() {
-            return false;
-        }
-    }
-    true
 }

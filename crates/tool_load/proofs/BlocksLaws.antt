@@ -3,7 +3,6 @@ use Rattle.std.proofs.Common.{◌≡◌, ℕ, ◌<◌, Bool, true, false, ◌||�
 use Rattle.std.specs.Prelude.{is_some, unwrap_or}
 use Rattle.std.specs.Option.{option_or}
 use Rattle.std.proofs.lemmas.Bool.{eqb-true, eq-eqb}
-use Rattle.route_part.proofs.Steps.{first_said-none, first_said-step}
 use Rattle.dsmcc_msg.specs.Block.{DdbFields, ddb}
 use Rattle.ssu_group.specs.declared.places.Place.{Place}
 use Rattle.ssu_group.specs.declared.group_plan.GroupPlan.{GroupPlan}
@@ -11,39 +10,16 @@ use Rattle.ssu_group.specs.Place.{place_of}
 use Rattle.ssu_group.specs.Carried.{brings, filling, missing_places, carried_image}
 use Rattle.ssu_group.specs.Map.{missing_below}
 use Rattle.ssu_group.proofs.MapLaws.{missing_same, all_marked}
+use Rattle.ssu_group.proofs.Filling.{filling-none, filling-step, brings_place}
 use Rattle.group_image.specs.Image.{Collected, is_there, missing_in, image_of, bytes_at, IsFor, IsEmpty}
 use Rattle.group_image.proofs.ImageLaws.{IsOffered, joined_image}
 use Rattle.tool_load.specs.Blocks.{Holds}
-
-filling-none : (plan : GroupPlan) (n : ℕ) → filling plan [] n ≡ None
-unfolding filling
-filling-none plan n = first_said-none (brings plan n)
-
-filling-step : (plan : GroupPlan) (section : List ℕ) (window : List (List ℕ)) (n : ℕ)
-    → filling plan (section ∷ window) n ≡ option_or (filling plan window n) (brings plan n section)
-unfolding filling
-filling-step plan section window n = first_said-step (brings plan n) section window
 
 pub holds_none : (plan : GroupPlan) (image : Collected) → IsFor plan image → IsEmpty image → Holds plan image []
 holds_none plan image is none = record {
   there = λ n below. none n (subst (λ (k : ℕ). n < k) (sym is.places) below) ∙ ap is_some (sym (filling-none plan n));
   bytes = λ n b below e. let no = filling-none plan n in absurd cc;
 }
-
--- ---- what a section brings
-
-pub brings_no_block : (plan : GroupPlan) (n : ℕ) (section : List ℕ) → ddb.of section ≡ None → brings plan n section ≡ None
-unfolding brings
-brings_no_block plan n section e = rw e refl
-
-pub brings_no_place : (plan : GroupPlan) (n : ℕ) (section : List ℕ) (d : DdbFields) → ddb.of section ≡ Some d → place_of plan d ≡ None → brings plan n section ≡ None
-unfolding brings
-brings_no_place plan n section d e f = rw (e, f) refl
-
-brings_place : (plan : GroupPlan) (n : ℕ) (section : List ℕ) (d : DdbFields) (p : Place) → ddb.of section ≡ Some d → place_of plan d ≡ Some p
-    → brings plan n section ≡ cond (eqb p.number n) (Some d.bytes) None
-unfolding brings
-brings_place plan n section d p e f = rw (e, f) refl
 
 or_none : {A : Type 0} (o : Option A) → option_or o None ≡ o
 or_none None = refl

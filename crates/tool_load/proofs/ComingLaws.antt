@@ -4,7 +4,7 @@ use Rattle.std.specs.Prelude.{Result, Ok, Err, IfOk, OnErr}
 use Rattle.tool_load.specs.declared.answer.Failing.{Failing}
 use Rattle.tool_load.specs.declared.answer.Failing.TheVariants.{Read, Write, TooLong, Memory}
 use Rattle.tool_load.specs.Failing.{OnWrite}
-use Rattle.ts_input.specs.Packets.{IsAtEnd}
+use Rattle.ts_input.specs.Packets.{IsAtEnd, IsWithin}
 use Rattle.ssu_answer.specs.declared.level.Level.{Level}
 use Rattle.ssu_answer.specs.declared.level.Level.TheVariants.{Linkage, Program, Component, Notice, Window, Group, Modules}
 use Rattle.ssu_answer.specs.declared.chosen.Chosen.{Chosen}
@@ -12,10 +12,11 @@ use Rattle.ssu_group.specs.Carried.{missing_places}
 use Rattle.tool_load.specs.declared.progress.Progress.{Progress}
 use Rattle.tool_load.specs.declared.verdict.Verdict.{Verdict}
 use Rattle.tool_load.specs.declared.verdict.Verdict.TheVariants.{Loaded, Nothing, Incomplete, BadModule}
-use Rattle.tool_load.specs.Load.{IsReached, IsOpen, IsNothing, IsIncomplete, IsVerdict, HearsIn, HearsAtPacket, IsWithin, ComesOf}
+use Rattle.tool_load.specs.Load.{IsReached, IsOpen, IsNothing, IsIncomplete, IsVerdict, HearsIn, HearsAtPacket, ComesOf}
 use Rattle.tool_load.specs.Progress.{StandsFor}
 use Rattle.tool_load.proofs.SearchLaws.{no_group_chosen, wanted_chosen}
-use Rattle.tool_load.proofs.PlanLaws.{one_choice, same_missing}
+use Rattle.ssu_group.proofs.SamePlans.{same_missing}
+use Rattle.tool_load.proofs.PlanLaws.{one_choice}
 
 reached_nothing : (sections : List (List ℕ)) (level : Level) → IsReached sections → IsNothing sections level → ⊥
 reached_nothing sections Linkage is none = none

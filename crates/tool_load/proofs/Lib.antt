@@ -1,4 +1,3 @@
-pub mod ReadingLaws
 pub mod BlocksLaws
 pub mod SearchLaws
 pub mod PlanLaws

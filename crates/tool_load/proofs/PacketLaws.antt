@@ -3,7 +3,7 @@ use Rattle.std.proofs.Common.{◌≡◌, ℕ, ◌+◌, ◌*◌, ◌<◌, List, [
 use Rattle.std.proofs.lemmas.List.{reverse-append}
 use Rattle.ssu_io.specs.Bytes.{Takes}
 use Rattle.ssu_io.proofs.BytesLemmas.{Takes_none, Takes_join}
-use Rattle.ts_input.specs.Packets.{packets}
+use Rattle.ts_input.specs.Packets.{packets, IsWithin, IsOneMore}
 use Rattle.ts_input.specs.Next.{TakesFewer}
 use Rattle.ts_input.specs.Behind.{TakesOne}
 use Rattle.ts_input.proofs.PacketLemmas.{packets_more, packets_end, packets_of_rest}
@@ -15,7 +15,7 @@ use Rattle.tool_load.specs.declared.progress.Progress.{Progress}
 use Rattle.tool_load.specs.declared.collect.Step.{Step}
 use Rattle.tool_load.specs.declared.collect.Step.TheVariants.{More, Reached, Full}
 use Rattle.tool_load.specs.Later.{first_with_later}
-use Rattle.tool_load.specs.Load.{IsReached, IsWithin, IsOneMore, HearsIn, HearsAtPacket, sections_of}
+use Rattle.tool_load.specs.Load.{IsReached, HearsIn, HearsAtPacket, sections_of}
 use Rattle.tool_load.specs.Progress.{StandsFor}
 use Rattle.tool_load.specs.Packets.{Follows}
 use Rattle.tool_load.specs.Ended.{OnMore, OnReached}

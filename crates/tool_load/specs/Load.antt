@@ -1,13 +1,13 @@
 -- Which group `load` takes out of the sections of a PID, and what comes of it. Lists of sections have the newest first.
-use Rattle.std.specs.Prelude.{◌≡◌, ℕ, ◌+◌, ◌*◌, ◌<◌, ◌≤◌, ◌&&◌, ◌==◌, List, [], ◌∷◌, ◌++◌, length, reverse, Option, Some, None, if◌then◌else◌}
+use Rattle.std.specs.Prelude.{◌≡◌, ℕ, ◌*◌, ◌<◌, ◌≤◌, ◌&&◌, ◌==◌, List, [], ◌∷◌, ◌++◌, length, reverse, Option, Some, None, if◌then◌else◌}
 use Rattle.std.specs.List.{slice_get}
 use Rattle.std.specs.Option.{option_and_then, option_map, is_none}
 use Rattle.ssu_io.specs.Bytes.{Takes}
 use Rattle.ts_crc.specs.Crc.{crc_of}
-use Rattle.ts_input.specs.Packets.{packets, IsAtEnd}
+use Rattle.ts_input.specs.Packets.{packets, most_packets, IsWithin, IsAtEnd}
 use Rattle.ts_section.specs.Events.{Listen, heard_of}
 use Rattle.dsmcc_msg.specs.Control.{GroupFields, DsiFields, DiiFields, dsi, dii}
-use Rattle.ssu_compat.specs.declared.rule.SwId.{SwId}
+use Rattle.ssu_answer.specs.Software.{no_software}
 use Rattle.ssu_answer.specs.declared.chosen.Chosen.{Chosen}
 use Rattle.ssu_answer.specs.declared.level.Level.{Level}
 use Rattle.ssu_answer.specs.declared.level.Level.TheVariants.{Group, Modules}
@@ -77,9 +77,6 @@ pub record IsReached (sections : List (List ℕ)) : Type 0 where
 -- ---- the verdict
 
 -- `load` takes the group whatever it offers, and names no software.
-abbrev pub no_software : SwId
-no_software = record { model = 0; version = 0 }
-
 abbrev pub chosen_of : ℕ → GroupPlan → Chosen
 chosen_of group plan = record { group = group; software = no_software; bytes = plan.total }
 
@@ -145,17 +142,6 @@ IsVerdict sections (BadModule id want found) image = IsBad sections id want foun
 unfoldable pub sections_of : ℕ → List (List ℕ) → List (List ℕ)
 sections_of pid ps = reverse (heard_of (Listen (pid ∷ []) ∷ []) ps)
 
--- the bytes of the greatest number of packets
-abbrev pub most_bytes : ℕ
-most_bytes = 188 * 16777216
-
-abbrev pub IsWithin : ℕ → Type 0
-IsWithin n = n ≤ most_bytes
-
--- one byte behind the greatest number of packets
-abbrev pub IsOneMore : ℕ → Type 0
-IsOneMore n = n ≡ most_bytes + 1
-
 abbrev pub IsOpen : List (List ℕ) → Type 0
 IsOpen sections = IsReached sections → ⊥
 
@@ -177,7 +163,7 @@ pub record HearsAtPacket (pid : ℕ) (left left_after : Option (List ℕ)) (Now 
   pub packet : List ℕ
   pub takes : Takes left left_after (earlier ++ packet)
   pub whole : length earlier ≡ 188 * count
-  pub within : count < 16777216
+  pub within : count < most_packets
   pub one : length packet ≡ 188
   pub now : Now (sections_of pid (packets (earlier ++ packet)))
   pub before : Before (sections_of pid (packets earlier))

@@ -2,9 +2,10 @@
 
 ghost use Rattle.std.specs.Prelude.{◌≡◌, ◌≤◌, false, ℕ, List, [], IfOk, IfErr, OnErr, ◌⊎◌};
 ghost use Rattle.ssu_io.specs.Faults.{Rose};
+ghost use Rattle.ts_input.specs.Packets.{IsOneMore, IsWithin};
 ghost use Rattle.ts_section.specs.Hearing.{Hears};
 ghost use Rattle.tool_load.specs.declared.verdict.Verdict.{Verdict};
-ghost use Rattle.tool_load.specs.Load.{IsOpen, IsChosen, IsUnchosen, HearsIn, HearsAtPacket, IsWithin, IsOneMore, ComesOf};
+ghost use Rattle.tool_load.specs.Load.{IsOpen, IsChosen, IsUnchosen, HearsIn, HearsAtPacket, ComesOf};
 ghost use Rattle.tool_load.specs.Progress.{StandsFor};
 ghost use Rattle.tool_load.specs.Printed.{is_loaded, PutsAll, PutsPart};
 ghost use Rattle.tool_load.specs.Failing.{OnRead, OnWrite, OnTooLong, OnMemory, IsWrite};

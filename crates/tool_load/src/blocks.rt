@@ -6,6 +6,7 @@ ghost use Rattle.ssu_group.specs.Carried.{wrong_module, module_bytes};
 ghost use Rattle.ssu_group.specs.declared.module_plan.ModulePlan.{ModulePlan};
 ghost use Rattle.ts_crc.specs.Crc.{crc_of};
 ghost use Rattle.group_image.specs.Image.{IsFor};
+ghost use Rattle.section_form.specs.Section.{IsRight};
 
 use crate::reading::ddb_of;
 use group_image::GroupImage;
@@ -35,8 +36,9 @@ impl Blocks {
         Ok(Blocks { group, plan, image })
     }
 
-    /// Takes the block that the section is, if it fills a place that is missing.
+    /// Takes the block that a right section is, if it fills a place that is missing.
     pub(crate) fn take(&mut self, section: &[u8])
+        requires right { IsRight section.now }
         ensures group { self.new.group ≡ self.old.group }
         ensures plan { self.new.plan ≡ self.old.plan }
         ensures holds { (window : List (List ℕ)) → Holds self.old.plan self.old.image window

@@ -2,9 +2,9 @@
 
 ghost use Rattle.std.specs.Prelude.{◌≡◌, ◌≤◌, ◌++◌, [], ◌∷◌, ℕ, List};
 ghost use Rattle.ssu_io.specs.Faults.{Rose};
-ghost use Rattle.ts_input.specs.Packets.{IsAtEnd};
+ghost use Rattle.ts_input.specs.Packets.{IsAtEnd, IsOneMore, IsWithin};
 ghost use Rattle.ts_section.specs.Hearing.{Hears};
-ghost use Rattle.tool_load.specs.Load.{IsReached, IsChosen, IsOpen, IsUnchosen, HearsIn, HearsAtPacket, IsWithin, IsOneMore, sections_of};
+ghost use Rattle.tool_load.specs.Load.{IsReached, IsChosen, IsOpen, IsUnchosen, HearsIn, HearsAtPacket, sections_of};
 ghost use Rattle.tool_load.specs.Progress.{StandsFor};
 ghost use Rattle.tool_load.specs.Packets.{Follows};
 ghost use Rattle.tool_load.specs.Ended.{OnMore, OnReached, OnFull, OnVerdict, OnInput, OnFault, OnTooLong, OnMemory};

@@ -4,9 +4,10 @@ ghost use Rattle.std.specs.Prelude.{◌≡◌, ◌≤◌, false, ◌⊎◌};
 ghost use Rattle.ssu_io.specs.Faults.{Rose};
 ghost use Rattle.ssu_answer.specs.declared.chosen.Chosen.{Chosen};
 ghost use Rattle.ssu_status.specs.Status.{OnDone, OnNothing, OnIncomplete, OnBadModule, OnReadFault, OnWriteFault, OnTooLong, OnNoMemory};
+ghost use Rattle.ts_input.specs.Packets.{IsOneMore, IsWithin};
 ghost use Rattle.tool_load.specs.declared.verdict.Verdict.{Verdict};
 ghost use Rattle.tool_load.specs.declared.verdict.Verdict.TheVariants.{Loaded, Nothing, Incomplete, BadModule};
-ghost use Rattle.tool_load.specs.Load.{IsOpen, IsChosen, IsUnchosen, HearsIn, HearsAtPacket, IsWithin, IsOneMore, ComesOf};
+ghost use Rattle.tool_load.specs.Load.{IsOpen, IsChosen, IsUnchosen, HearsIn, HearsAtPacket, ComesOf};
 ghost use Rattle.tool_load.specs.Printed.{is_loaded, PutsPart};
 ghost use Rattle.tool_load.specs.Told.{Tells, status_of as status_of_answer, status_of_verdict as status_of_one, OnNoImage, OnNoVerdict, IsAnswer, IsUnfailed};
 

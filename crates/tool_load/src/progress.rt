@@ -1,6 +1,7 @@
 //! How far the sections have led: to no group, to a group, to its blocks.
 
 ghost use Rattle.std.specs.Prelude.{◌≡◌, ◌∷◌, ◌++◌, [], ℕ, List, reverse, OnOk, OnErr, IsTrue, IsFalse};
+ghost use Rattle.section_form.specs.Section.{IsRight};
 ghost use Rattle.tool_load.specs.Load.{IsChosen, IsReached};
 ghost use Rattle.tool_load.specs.Progress.{StandsFor};
 
@@ -22,8 +23,9 @@ pub(crate) enum Progress {
 }
 
 impl Progress {
-    /// One section more.
+    /// One right section more.
     pub(crate) fn hear(&mut self, alloc: Global, section: &[u8]) -> Result<(), NoMemory>
+        requires right { IsRight section.now }
         ensures stands { OnOk result ((sections : List (List ℕ)) → StandsFor self.old sections
             → StandsFor self.new (section.now ∷ sections)) }
         // The space of the group is taken at its DII.

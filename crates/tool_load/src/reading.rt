@@ -5,6 +5,7 @@ ghost use Rattle.std.specs.Option.{option_map};
 ghost use Rattle.dsmcc_msg.specs.Control.{DsiFields, DiiFields, dsi, dii};
 ghost use Rattle.dsmcc_msg.specs.Block.{ddb};
 ghost use Rattle.dsmcc_msg.specs.View.{ddb_view};
+ghost use Rattle.section_form.specs.Section.{IsRight};
 ghost use Rattle.ssu_group.specs.Refusal.{refusal};
 ghost use Rattle.ssu_group.specs.Lays.{IsPlanOf};
 ghost use Rattle.tool_load.specs.Load.{group_in as group_of_section, dii_in, usable_for, bank_len};
@@ -29,11 +30,12 @@ fn dii_of(section: &[u8]) -> Option<Dii<'_>>
     Dii::read(section)
 }
 
-/// The DDB that the section is.
+/// The DDB that a right section is.
 pub(crate) fn ddb_of(section: &[u8]) -> Option<Ddb<'_>>
+    requires { IsRight section.now }
     ensures { option_map ddb_view result ≡ ddb.of section.now }
 {
-    Ddb::read(section)
+    Ddb::read_right(section)
 }
 
 /// The first group of the section, if it is a DSI that has one.

@@ -8,3 +8,4 @@ pub mod Hearers
 pub mod CutPackets
 pub mod CutHeard
 pub mod HearSteps
+pub mod SamePids

@@ -3,7 +3,7 @@
 ghost use Rattle.std.specs.Prelude.{◌≡◌, ◌<◌, ◌≤◌, ℕ, List, [], ◌∷◌, length, IfOk, IfSome, IfNone, MatchOption, slice_index, true, false, vec_len};
 ghost use Rattle.ts_packet.specs.Packet.{pid_of};
 
-use crate::kept::{move_kept, place_of, set_pids};
+use crate::kept::{are_same, move_kept, place_of, set_pids};
 use crate::section_out::SectionOut;
 use crate::stream::Stream;
 use arrayvec::ArrayVec;
@@ -44,6 +44,9 @@ impl Hearer {
     pub fn listen(&mut self, pids: &PidSet)
         ensures stands { (events : List Event) → Hears self.old events → Hears self.new (Listen pids.now.items ∷ events) }
     {
+        if are_same(&self.pids, pids) {
+            return;
+        }
         move_kept(&self.pids, pids, &mut self.streams, &mut self.spare);
         mem::swap(&mut self.streams, &mut self.spare);
         set_pids(&mut self.pids, pids);

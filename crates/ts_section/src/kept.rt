@@ -1,6 +1,6 @@
 //! The streams of the PIDs that stay in the set.
 
-ghost use Rattle.std.specs.Prelude.{◌≡◌, ◌≢◌, ◌<◌, ◌≤◌, ℕ, length, IfSome, MatchOption, slice_index, slice_index_or, slice_set, true, false, vec_len};
+ghost use Rattle.std.specs.Prelude.{◌≡◌, ◌≢◌, ◌<◌, ◌≤◌, ℕ, length, IfSome, IsTrue, MatchOption, slice_index, slice_index_or, slice_set, true, false, vec_len};
 ghost use Rattle.ts_section.specs.declared.stream.Stream.{Stream as KeptStream};
 ghost use Rattle.ts_section.specs.Places.{IsFirst};
 ghost use Rattle.ts_section.specs.Events.{is_among};
@@ -9,6 +9,7 @@ ghost use Rattle.ts_section.specs.Streams.{IsFresh};
 use crate::hearer::PidSet;
 use crate::stream::Stream;
 use std::mem;
+use ts_packet::Pid;
 
 /// The first place of the PID in the set.
 pub(crate) fn place_of(pids: &PidSet, pid: u16) -> Option<usize>
@@ -22,6 +23,21 @@ pub(crate) fn place_of(pids: &PidSet, pid: u16) -> Option<usize>
         }
     }
     None
+}
+
+/// Whether both have the same PIDs in the same order.
+pub(crate) fn are_same(one: &[Pid], other: &[Pid]) -> bool
+    ensures { IsTrue result → one.now ≡ other.now }
+{
+    if one.len() != other.len() {
+        return false;
+    }
+    for k in 0..one.len() {
+        if one[k].get() != other[k].get() {
+            return false;
+        }
+    }
+    true
 }
 
 /// Makes the set hold these PIDs.

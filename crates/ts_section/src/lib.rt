@@ -13,5 +13,5 @@ mod tests;
 
 pub use cutting::cut;
 pub use hearer::{Hearer, PidSet};
-pub use section_form::{LongForm, MakeFault, long, long_section, section_ends};
+pub use section_form::{LongForm, MakeFault, long, long_of_right, long_section, section_ends};
 pub use section_out::SectionOut;

@@ -1,7 +1,7 @@
 //! The sections that one packet completes.
 
 ghost use Rattle.std.specs.Prelude.{◌≡◌, ◌==◌, ◌+◌, ◌*◌, ◌<◌, ◌≤◌, true, [], ◌∷◌, ◌++◌, length, vec_len, IfOk, slice_get, Some};
-ghost use Rattle.section_form.specs.Section.{section_end};
+ghost use Rattle.section_form.specs.Section.{section_end, IsRightSection};
 ghost use Rattle.ts_section.specs.Sections.{has_section};
 ghost use Rattle.ts_section.specs.Steps.{right_of};
 
@@ -28,12 +28,15 @@ pub struct SectionOut {
 
 impl Model for SectionOut {
     ghost use Rattle.std.specs.Prelude.{◌≡◌, ◌≤◌, ℕ, List, map, take, vec_len};
+    ghost use Rattle.std.specs.List.{All};
+    ghost use Rattle.section_form.specs.Section.{IsRightSection};
 
     ghost Value = { List (List ℕ) };
 
     ghost view = { λ s. map (λ v. v.items) (take s.used s.slots.items) };
 
-    ghost invariant = { λ s. (s.used ≤ 28) × (vec_len s.slots ≡ 28) };
+    ghost invariant = { λ s. (s.used ≤ 28) × (vec_len s.slots ≡ 28)
+        × All IsRightSection (map (λ v. v.items) (take s.used s.slots.items)) };
 }
 
 impl SectionOut {
@@ -61,11 +64,12 @@ impl SectionOut {
         self.used == 0
     }
 
-    /// The bytes of section `k`, 4,096 at most.
+    /// The bytes of section `k`, 4,096 at most. It is whole and right, so no reader has to compute its CRC again.
     pub fn get(&self, k: usize) -> &[u8]
         requires { k < length self.now }
         ensures bytes { slice_get self.now k ≡ Some result.now }
         ensures most { length result.now ≤ 4096 }
+        ensures right { IsRightSection result.now }
     {
         self.slots[k].as_slice()
     }
@@ -93,6 +97,7 @@ impl SectionOut {
     fn put(&mut self, section: &[u8])
         requires room { length self.old < 28 }
         requires fits { length section.now ≤ 4096 }
+        requires right { IsRightSection section.now }
         ensures { self.new ≡ self.old ++ section.now ∷ [] }
     {
         let slot = &mut self.slots[self.used];

@@ -1,6 +1,6 @@
 use Rattle.std.proofs.Common.{◌≡◌, rules, arith}
 use Rattle.std.proofs.lemmas.Grind.{common_steps}
-use Rattle.si_table.specs.Views.{time_view}
+use Rattle.ssu_time.specs.UtcField.{time_view}
 use Rattle.si_table.specs.Written.{tot_bytes}
 use Rattle.si_table.proofs.Back.{tot_put}
 use Rattle.si_table.proofs.writing.write_tot.Goals as goal

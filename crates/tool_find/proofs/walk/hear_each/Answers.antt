@@ -1,7 +1,7 @@
 use Rattle.std.proofs.Common.{List, sym, subst}
 use Rattle.ts_section.specs.Events.{Heard}
 use Rattle.ssu_route.specs.Route.{Stands}
-use Rattle.tool_find.proofs.Following.{after_one_more}
+use Rattle.ssu_route.proofs.Following.{after_one_more}
 use Rattle.tool_find.proofs.walk.hear_each.Goals as goal
 
 pub loop-k-preserved : goal.loop-k-preserved

@@ -2,7 +2,7 @@ use Rattle.std.proofs.Common.{◌≡◌, List, take}
 use Rattle.ts_section.specs.Events.{Heard}
 use Rattle.route_tables.specs.Values.{Receiver}
 use Rattle.ssu_route.specs.Route.{Stands}
-use Rattle.tool_find.specs.Heard.{after_all}
+use Rattle.ssu_route.specs.Queries.{after_all}
 use Rattle.tool_find.proofs.walk.hear_each.Given as goal
 
 abbrev pub invariant-loop-k : goal.invariant-loop-k

@@ -1,4 +1,4 @@
-use Rattle.std.proofs.Common.{◌≡◌, ◌⊎◌, length, arith, inl, inr}
+use Rattle.std.proofs.Common.{◌≡◌, length, arith, inl, inr}
 use Rattle.std.proofs.lemmas.Result.{err_from_is_err_and}
 use Rattle.tool_find.proofs.Printing.{walk_begin, walk_step, walk_step_failed, walk_done, walk_done_failed, walk_end, walk_end_failed, walk_most, walk_most_failed, walk_too_long, walk_most_done, walk_most_done_failed}
 use Rattle.tool_find.proofs.walking.walk_all.Goals as goal

@@ -3,7 +3,8 @@ use Rattle.ssu_group.specs.Carried.{missing_places}
 use Rattle.tool_load.specs.declared.progress.Progress.{Progress}
 use Rattle.tool_load.specs.Progress.{StandsFor, Collects}
 use Rattle.tool_load.proofs.BlocksLaws.{missing_is}
-use Rattle.tool_load.proofs.PlanLaws.{one_choice, same_missing}
+use Rattle.ssu_group.proofs.SamePlans.{same_missing}
+use Rattle.tool_load.proofs.PlanLaws.{one_choice}
 use Rattle.tool_load.proofs.progress.is_whole.Goals as goal
 
 abbrev Stands : List (List ℕ) → Progress → Type 0

@@ -1,6 +1,6 @@
 use Rattle.dsmcc_msg.specs.Control.{dii}
 use Rattle.dsmcc_msg.specs.Exact.{dii_exact}
-use Rattle.tool_load.proofs.ReadingLaws.{reads_it}
+use Rattle.dsmcc_msg.proofs.Reading.{reads_it}
 use Rattle.tool_load.proofs.reading.dii_of.Goals as goal
 
 pub returns : goal.returns

@@ -1,10 +1,10 @@
-use Rattle.std.proofs.Common.{◌≡◌, List, [], sym, subst, refl, ap, ◌∙◌}
+use Rattle.std.proofs.Common.{◌≡◌, List, [], sym, subst, refl}
 use Rattle.ts_section.specs.Events.{Heard, Event}
 use Rattle.ts_section.specs.Hearing.{Hears}
 use Rattle.ssu_route.specs.Queries.{listened}
 use Rattle.ssu_route.specs.Route.{Stands}
 use Rattle.tool_find.specs.Lines.{receiver_of}
-use Rattle.tool_find.proofs.Following.{heard_none, followed_none}
+use Rattle.ssu_route.proofs.Following.{heard_none, followed_none}
 use Rattle.tool_find.proofs.walk.Walk.new.Goals as goal
 
 pub returns : goal.returns
@@ -18,7 +18,6 @@ returns c =
       stands = record {
         hears = subst Q (sym (followed_none me)) (rw pids at (c.listen.ensures.stands [] c.in_ok-hearer.ensures));
         stands = subst P (sym (heard_none me)) stands;
-        listens = pids ∙ ap (listened me) (sym (heard_none me));
         runs = refl;
       };
     }

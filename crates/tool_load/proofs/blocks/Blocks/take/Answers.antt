@@ -5,7 +5,8 @@ use Rattle.dsmcc_msg.specs.Block.{DdbFields, ddb}
 use Rattle.dsmcc_msg.specs.View.{ddb_view}
 use Rattle.ssu_group.specs.Place.{place_of}
 use Rattle.group_image.proofs.ImageLaws.{placed_len}
-use Rattle.tool_load.proofs.BlocksLaws.{brings_no_block, brings_no_place, holds_same, holds_more}
+use Rattle.ssu_group.proofs.Filling.{brings_no_block, brings_no_place}
+use Rattle.tool_load.proofs.BlocksLaws.{holds_same, holds_more}
 use Rattle.tool_load.proofs.blocks.Blocks.take.Goals as goal
 
 abbrev seen : Option Ddb → Option DdbFields

@@ -2,7 +2,14 @@ use Rattle.std.proofs.Common.{ap, sym, ◌∙◌}
 use Rattle.ts_section.specs.Events.{is_among}
 use Rattle.ts_section.proofs.Spans.{is_listened-listen}
 use Rattle.ts_section.proofs.Hearers.{moved}
+use Rattle.ts_section.proofs.SamePids.{relisten}
 use Rattle.ts_section.proofs.hearer.Hearer.listen.Goals as goal
+
+pub returns-then-are_same : goal.returns-then-are_same
+returns-then-are_same c = record {
+  stands = λ events stands.
+      relisten c.args.self.now c.args.pids.now.items events (λ pid. stands.listens pid ∙ ap (is_among pid) (sym c.deref.ensures.0 ∙ c.are_same.ensures c.if-are_same.true ∙ c.deref-2.ensures.0)) stands;
+}
 
 pub returns : goal.returns
 returns c = record {

@@ -1,5 +1,5 @@
 use Rattle.std.proofs.Common.{arith, append-nil, ◌++◌, sym, ◌∙◌, ap, length-append}
-use Rattle.ts_section.proofs.Pieces.{front, right-front, right_of-right, right_of-wrong}
+use Rattle.ts_section.proofs.Pieces.{front, front_right, right-front, right_of-right, right_of-wrong}
 use Rattle.ts_section.proofs.section_out.SectionOut.put_front.Goals as goal
 
 pub slice_bounds-section-end : goal.slice_bounds-section-end
@@ -13,6 +13,10 @@ put-requires-clause-fits c =
     let known = front c.args.text.now c.args.len c.requires.whole c.requires.end in
     let sizes = right-front c.args.text.now c.args.len c.requires.whole c.requires.end (sym c.is_right.ensures.test ∙ c.if-is_right.true) in
     omega arith
+
+pub put-requires-clause-right : goal.put-requires-clause-right
+put-requires-clause-right c =
+    front_right c.args.text.now c.args.len c.requires.whole c.requires.end (sym c.is_right.ensures.test ∙ c.if-is_right.true)
 
 pub returns-then-is_right-clause-heard : goal.returns-then-is_right-clause-heard
 returns-then-is_right-clause-heard c =

@@ -1,5 +1,5 @@
 use Rattle.std.proofs.Common.{◌≡◌, take}
-use Rattle.tool_find.proofs.walk.are_same.Given as goal
+use Rattle.ts_section.proofs.kept.are_same.Given as goal
 
 abbrev pub invariant-loop-k : goal.invariant-loop-k
 invariant-loop-k l = take l.k l.one ≡ take l.k l.other

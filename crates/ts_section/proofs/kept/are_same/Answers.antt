@@ -1,6 +1,6 @@
 use Rattle.std.proofs.Common.{arith}
-use Rattle.tool_find.proofs.Fronts.{front_more_same, front_all_same}
-use Rattle.tool_find.proofs.walk.are_same.Goals as goal
+use Rattle.ts_section.proofs.SamePids.{front_more_same, front_all_same}
+use Rattle.ts_section.proofs.kept.are_same.Goals as goal
 
 pub loop-k-preserved : goal.loop-k-preserved
 loop-k-preserved c =

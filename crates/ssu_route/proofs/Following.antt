@@ -1,16 +1,12 @@
 -- A box that takes up the PIDs after each packet, and what it hears.
-use Rattle.std.proofs.Common.{zero, suc, ◌≡◌, ℕ, ◌+◌, ◌<◌, Bool, true, false, List, [], ◌∷◌, ◌++◌, length, take, map, reverse, Some, arith, sym, ap, refl, ◌∙◌, append-nil}
-use Rattle.std.specs.Prelude.{slice_index, ◌==◌, ◌||◌}
+use Rattle.std.proofs.Common.{zero, suc, ◌≡◌, ℕ, ◌+◌, List, [], ◌∷◌, ◌++◌, take, map, reverse, Some, arith, sym, ap, refl, ◌∙◌, append-nil}
 use Rattle.std.specs.List.{slice_get}
 use Rattle.std.proofs.lemmas.List.{reverse-append, map-append}
 use Rattle.ts_packet.specs.Packet.{pid_of}
-use Rattle.ts_section.specs.Events.{Event, Listen, Feed, Heard, all_heard, heard, is_among, is_listened, span}
-use Rattle.ts_section.specs.Hearing.{Hears}
-use Rattle.ts_section.specs.declared.hearer.Hearer.{Hearer}
+use Rattle.ts_section.specs.Events.{Event, Listen, Feed, Heard, all_heard, heard}
 use Rattle.route_tables.specs.Next.{heard_on}
 use Rattle.route_tables.specs.Values.{Receiver}
-use Rattle.ssu_route.specs.Queries.{followed, heard_by, listened, newest_first}
-use Rattle.tool_find.specs.Heard.{after_all}
+use Rattle.ssu_route.specs.Queries.{followed, heard_by, listened, newest_first, after_all}
 
 -- a section is heard behind those before it
 front_more : (xs : List (List ℕ)) (k : ℕ) (x : List ℕ) → slice_get xs k ≡ Some x → take (k + 1) xs ≡ take k xs ++ x ∷ []
@@ -59,37 +55,3 @@ heard_none me = refl
 pub followed_none : (me : Receiver) → followed me [] ≡ Listen (listened me []) ∷ []
 unfolding followed newest_first all_heard
 followed_none me = refl
-
--- after a packet, the PIDs that are listened to are still those from before it
-pub listening : (me : Receiver) (packet : List ℕ) (ps : List (List ℕ)) (pid : ℕ)
-    → is_listened pid (Feed packet ∷ followed me ps) ≡ is_among pid (listened me (heard_by me ps))
-unfolding is_listened heard_by followed
-listening me packet [] pid = ap (λ (heard : List Heard). is_among pid (listened me heard)) (sym (newest_listen (listened me (newest_first [])) []))
-listening me packet (p ∷ earlier) pid =
-    ap (λ (heard : List Heard). is_among pid (listened me heard))
-    (sym (newest_listen (listened me (newest_first (Feed p ∷ followed me earlier))) (Feed p ∷ followed me earlier)))
-
-span_same : (pid : ℕ) (pids : List ℕ) (events : List Event) → is_among pid pids ≡ true → span pid (Listen pids ∷ events) ≡ span pid events
-unfolding span
-span_same pid pids events among = rw among refl
-
--- what stands at a place of the list is among it
-among_at : (pids : List ℕ) (pid at : ℕ) → at < length pids → slice_index pids at ≡ pid → is_among pid pids ≡ true
-among_at [] pid at within found = absurd (omega (arith, within))
-among_at (p ∷ pids) pid zero within found = let same : (p == pid) ≡ true = grind (arith, found) in rw same refl
-among_at (p ∷ pids) pid (suc at) within found = either (p == pid) (is_among pid pids) (among_at pids pid at (omega (arith, within)) found)
-  where
-    either : (a b : Bool) → b ≡ true → (a || b) ≡ true
-    either true b h = refl
-    either false b h = h
-
--- Whoever listens to the same PIDs anew stands where it stood.
-pub relisten : (hearer : Hearer) (pids : List ℕ) (events : List Event) → ((pid : ℕ) → is_listened pid events ≡ is_among pid pids)
-    → Hears hearer events → Hears hearer (Listen pids ∷ events)
-unfolding is_listened
-relisten hearer pids events same hears = record {
-  listens = λ pid. sym (same pid) ∙ hears.listens pid;
-  streams = λ pid at other first.
-      let among : is_among pid pids ≡ true = sym (same pid) ∙ hears.listens pid ∙ among_at hearer.pids.items pid at first.within first.found in
-      rw (span_same pid pids events among) (hears.streams pid at other first);
-}
