@@ -37,7 +37,8 @@ placed_is_place plan d p e = by_test (eqb d.download plan.download) e
 same_place : (p q : Place) → Some p ≡ Some q → p ≡ q
 same_place p q e = cc
 
-abbrev HasLength : GroupPlan → ℕ → Option (List ℕ) → Type 0
+-- bytes that stand for a place have its length
+abbrev pub HasLength : GroupPlan → ℕ → Option (List ℕ) → Type 0
 HasLength plan n o = (p : Place) (b : List ℕ) → place_at plan.block_size plan.modules.items n ≡ Some p → o ≡ Some b → length b ≡ p.len
 
 brought_len : (plan : GroupPlan) (n : ℕ) (section : List ℕ) → HasLength plan n (brings plan n section)
@@ -64,7 +65,8 @@ either_len : (plan : GroupPlan) (n : ℕ) (a b : Option (List ℕ)) → HasLengt
 either_len plan n None b p q = q
 either_len plan n (Some x) b p q = p
 
-filling_len : (plan : GroupPlan) (window : List (List ℕ)) (n : ℕ) → HasLength plan n (filling plan window n)
+-- what fills a place has its length
+pub filling_len : (plan : GroupPlan) (window : List (List ℕ)) (n : ℕ) → HasLength plan n (filling plan window n)
 unfolding filling
 filling_len plan [] n = λ p b at some. let none = first_said-none (brings plan n) in absurd cc
 filling_len plan (section ∷ window) n =

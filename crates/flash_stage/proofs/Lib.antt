@@ -1,0 +1,4 @@
+pub mod InBankLemmas
+pub mod LeavingLaws
+pub mod RamLemmas
+pub mod TextLaws

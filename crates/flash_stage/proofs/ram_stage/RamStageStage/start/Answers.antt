@@ -1,0 +1,16 @@
+use Rattle.std.proofs.Common.{sym, subst}
+use Rattle.flash_dev.proofs.Moments.{started}
+use Rattle.flash_stage.specs.Leaving.{StageLeaves}
+use Rattle.flash_stage.proofs.LeavingLaws.{leaves_same}
+use Rattle.flash_stage.proofs.ram_stage.RamStageStage.start.Goals as goal
+
+pub invariant_of-self : goal.invariant_of-self
+invariant_of-self g c = record { room = λ plan fits. c.start.ensures.room plan (c.args.self.now.room plan fits) }
+
+pub returns-clause-left : goal.returns-clause-left
+returns-clause-left g c tells =
+    let F = g.F.Flash in
+    let b = c.args._bank.now in
+    let f = c.args._flash.now in
+    let P = StageLeaves b (F.contents f) in
+    started F.moment F.left_since f P (λ y left. subst P (sym (g.met.F.Flash.only_now f y left)) (leaves_same b (F.contents f) (c.requires.lent.fits tells).sound))

@@ -1,0 +1,4 @@
+pub mod InBank
+pub mod Leaving
+pub mod Outline
+pub mod Ram

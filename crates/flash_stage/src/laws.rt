@@ -1,0 +1,58 @@
+//! What a loader may build on, each law as the contract of a function that does nothing.
+
+ghost use Rattle.std.specs.Prelude.{◌≡◌, ◌+◌, ◌<◌, Contains, List, [], length, ℕ, unwrap_or, Some};
+ghost use Rattle.flash_bank.specs.Bank.{Fits, geometry_of};
+ghost use Rattle.flash_bank.specs.Sound.{IsSound};
+ghost use Rattle.flash_bank.specs.declared.bank.Bank.{Bank};
+ghost use Rattle.flash_bank.specs.declared.record.Record.{Record};
+ghost use Rattle.flash_stage.specs.Leaving.{FinishLeaves, Installs, SameBank, StageLeaves};
+ghost use Rattle.flash_stage.specs.Outline.{module_text, outline_of};
+ghost use Rattle.ssu_group.specs.Carried.{carried_image, filling, joined, missing_places, module_bytes};
+ghost use Rattle.ssu_group.specs.Place.{place_at};
+ghost use Rattle.ssu_group.specs.declared.group_plan.GroupPlan.{GroupPlan};
+ghost use Rattle.ssu_group.specs.declared.module_plan.ModulePlan.{ModulePlan};
+ghost use Rattle.ssu_group.specs.declared.places.Place.{Place};
+
+/// What one call of a stage may leave, and then another, is what a call may leave: so it holds for all calls up to
+/// `finish`, and with `finish`.
+pub fn calls_go_on()
+    ensures none { (bank : Bank) (x : List ℕ) → IsSound (geometry_of bank) x → StageLeaves bank x x }
+    ensures more { (bank : Bank) (x y z : List ℕ) → StageLeaves bank x y → StageLeaves bank y z → StageLeaves bank x z }
+    ensures finish { (bank : Bank) (new : Record) (image x y z : List ℕ) → Fits bank x → StageLeaves bank x y
+        → FinishLeaves bank new image y z → FinishLeaves bank new image x z }
+    ensures installs { (bank : Bank) (new : Record) (image x y z : List ℕ) → Fits bank x → StageLeaves bank x y
+        → Installs bank new image y z → Installs bank new image x z }
+{}
+
+/// The same may be left of a bank as long as it is as it was.
+pub fn banks_stay()
+    ensures leaves { (old new : Bank) (x y : List ℕ) → SameBank old new → StageLeaves new x y → StageLeaves old x y }
+    ensures finish { (old new : Bank) (head : Record) (image x y : List ℕ) → SameBank old new
+        → FinishLeaves new head image x y → FinishLeaves old head image x y }
+    ensures installs { (old new : Bank) (head : Record) (image x y : List ℕ) → SameBank old new
+        → Installs new head image x y → Installs old head image x y }
+    ensures joined { (first second third : Bank) → SameBank first second → SameBank second third → SameBank first third }
+{}
+
+/// Plans of the same modules have one outline.
+pub fn same_modules_have_one_outline()
+    ensures { (p q : GroupPlan) → p.block_size ≡ q.block_size → p.modules.items ≡ q.modules.items
+        → outline_of p ≡ outline_of q }
+{}
+
+/// The bytes of a module are the texts of its places, joined.
+pub fn modules_join_their_places()
+    // The places of a module are places of the plan.
+    ensures below { (plan : GroupPlan) (m : ModulePlan) (k : ℕ) → Contains plan.modules.items m → k < m.blocks
+        → m.first + k < plan.places }
+    // In the join of texts that have the lengths of the places.
+    ensures texts { (plan : GroupPlan) (m : ModulePlan) (text : ℕ → List ℕ) → Contains plan.modules.items m
+        → ((n : ℕ) (p : Place) → place_at plan.block_size plan.modules.items n ≡ Some p → length (text n) ≡ p.len)
+        → module_bytes (joined text plan.places) m ≡ module_text text m }
+    // In the image that sections carry.
+    ensures carried { (plan : GroupPlan) (window : List (List ℕ)) (m : ModulePlan) → missing_places plan window ≡ 0
+        → Contains plan.modules.items m
+        → module_bytes (carried_image plan window) m ≡ module_text (λ n. unwrap_or (filling plan window n) []) m }
+    // The same texts join to the same bytes.
+    ensures same { (f g : ℕ → List ℕ) (n : ℕ) → ((k : ℕ) → k < n → f k ≡ g k) → joined f n ≡ joined g n }
+{}

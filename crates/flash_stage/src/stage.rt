@@ -1,0 +1,189 @@
+//! A stage as the loader sees it.
+
+ghost use Rattle.std.specs.Prelude.{◌≡◌, ◌≢◌, ◌+◌, ◌-◌, ◌<◌, ◌≤◌, Bool, Contains, IfOk, List, OnErr, OnOk, Some, true, false, length, ℕ};
+ghost use Rattle.flash_dev.specs.Moments.{LeavesOnly};
+ghost use Rattle.flash_bank.specs.Bank.{IsLent, block_of, current_of, geometry_of, is_begun, is_spent, next_record, spare_bank};
+ghost use Rattle.flash_bank.specs.Layout.{bank_len};
+ghost use Rattle.flash_bank.specs.Pairs.{part};
+ghost use Rattle.flash_bank.specs.Runs.{OnlyReads};
+ghost use Rattle.flash_bank.specs.declared.bank.Bank.{Bank};
+ghost use Rattle.flash_stage.specs.Leaving.{FinishLeaves, Installs, SameBank, StageLeaves};
+ghost use Rattle.flash_stage.specs.Outline.{IsPlaceOf, Outline, group_text, module_text, outline_of, place_of};
+ghost use Rattle.ssu_group.specs.Map.{missing_below};
+ghost use Rattle.ssu_group.specs.declared.places.Place.{Place};
+ghost use Rattle.ssu_io.specs.Faults.{HasCause};
+ghost use Rattle.ts_crc.specs.Crc.{crc_of};
+
+use flash_bank::{Bank, FlashFault};
+use flash_dev::Flash;
+use ssu_compat::SwId;
+use ssu_group::{GroupPlan, ModulePlan, Place};
+use ssu_io::NoMemory;
+use std::alloc::Global;
+
+/// Where the places of a group are staged until the group is whole, and how it is installed then. Up to `finish` boot
+/// takes what it took, whenever the power goes; from then on that, or the whole new image.
+///
+/// Only `make` takes memory. A bank that is lent to a call was not spent, and after a fault of the flash it is.
+pub trait Stage: Sized + Drop {
+    /// The length of the bank that it was made for.
+    ghost most: { Self → ℕ };
+
+    /// The plan of the group that it began.
+    ghost plan_of: { Self → Outline };
+
+    /// Whether the place of that number is staged.
+    ghost has: { Self → ℕ → Bool };
+
+    /// The bytes that stand for a place, in the stage or in what the flash holds.
+    ghost bytes_at: { Self → Bank → List ℕ → ℕ → List ℕ };
+
+    /// It began a group with this bank, which it has not finished.
+    ghost ready: { Self → Bank → Type 0 };
+
+    /// What the flash holds is as the stage left it.
+    ghost agrees: { Self → Bank → List ℕ → Type 0 };
+
+    /// Whether what is staged stands in the spare bank.
+    ghost IN_BANK: { Bool };
+
+    /// Whether what is staged stands in the spare bank.
+    const IN_BANK: bool;
+
+    /// A stage for a bank of this length. All its memory is taken here.
+    fn make(alloc: Global, bank: &Bank) -> Result<Self, NoMemory>
+        ensures most { IfOk result (λ stage. most stage ≡ bank_len (geometry_of bank.now)) };
+
+    /// Begins the group of this plan, with no place staged.
+    fn start<F: Flash>(
+        &mut self,
+        bank: &mut Bank,
+        flash: &mut F,
+        plan: &GroupPlan,
+    ) -> Result<(), FlashFault>
+        requires lent { IsLent F.tells F.contents F.block_count F.block_len bank.old flash.old }
+        requires made_for { most self.old ≡ bank_len (geometry_of bank.old) }
+        requires inside { plan.now.total ≤ bank_len (geometry_of bank.old) }
+        requires next_fits { (current_of bank.old).number < 4294967295 }
+        ensures lent { OnOk result (IsLent F.tells F.contents F.block_count F.block_len bank.new flash.new) }
+        ensures ready { OnOk result (ready self.new bank.new) }
+        ensures agrees { F.tells → OnOk result (agrees self.new bank.new (F.contents flash.new)) }
+        ensures plan { OnOk result (plan_of self.new ≡ outline_of plan.now) }
+        ensures empty { OnOk result ((number : ℕ) → number < plan.now.places → has self.new number ≡ false) }
+        ensures held { F.tells → StageLeaves bank.old (F.contents flash.old) (F.contents flash.new) }
+        ensures left { F.tells → LeavesOnly F.moment F.left_since flash.old flash.new
+            (StageLeaves bank.old (F.contents flash.old)) }
+        ensures begun { OnOk result (is_begun bank.old ≡ true → is_begun bank.new ≡ true) }
+        ensures spent { OnErr result (is_spent bank.new ≡ true) }
+        ensures same_bank { SameBank bank.old bank.new }
+        ensures most { most self.new ≡ most self.old }
+        ensures blocks { F.block_count flash.new ≡ F.block_count flash.old }
+        ensures block_size { F.block_len flash.new ≡ F.block_len flash.old }
+        ensures cause { HasCause (F.faults flash.old) (F.faults flash.new) result };
+
+    /// Stages the bytes of a place. One that is staged already keeps its first bytes.
+    fn offer<F: Flash>(
+        &mut self,
+        bank: &mut Bank,
+        flash: &mut F,
+        place: Place,
+        bytes: &[u8],
+    ) -> Result<(), FlashFault>
+        requires lent { IsLent F.tells F.contents F.block_count F.block_len bank.old flash.old }
+        requires ready { ready self.old bank.old }
+        requires agrees { F.tells → agrees self.old bank.old (F.contents flash.old) }
+        requires place { IsPlaceOf (plan_of self.old) place }
+        requires length { length bytes.now ≡ place.len }
+        ensures lent { OnOk result (IsLent F.tells F.contents F.block_count F.block_len bank.new flash.new) }
+        ensures ready { OnOk result (ready self.new bank.new) }
+        ensures agrees { F.tells → OnOk result (agrees self.new bank.new (F.contents flash.new)) }
+        ensures plan { plan_of self.new ≡ plan_of self.old }
+        ensures added { OnOk result (has self.new place.number ≡ true) }
+        ensures others { OnOk result ((number : ℕ) → number ≢ place.number → has self.new number ≡ has self.old number) }
+        ensures new_bytes { F.tells → has self.old place.number ≡ false
+            → OnOk result (bytes_at self.new bank.new (F.contents flash.new) place.number ≡ bytes.now) }
+        ensures old_bytes { F.tells → OnOk result ((number : ℕ) → has self.old number ≡ true
+            → bytes_at self.new bank.new (F.contents flash.new) number ≡ bytes_at self.old bank.old (F.contents flash.old) number) }
+        ensures held { F.tells → StageLeaves bank.old (F.contents flash.old) (F.contents flash.new) }
+        ensures left { F.tells → LeavesOnly F.moment F.left_since flash.old flash.new
+            (StageLeaves bank.old (F.contents flash.old)) }
+        ensures begun { OnOk result (is_begun bank.old ≡ true → is_begun bank.new ≡ true) }
+        ensures spent { OnErr result (is_spent bank.new ≡ true) }
+        ensures same_bank { SameBank bank.old bank.new }
+        ensures most { most self.new ≡ most self.old }
+        ensures blocks { F.block_count flash.new ≡ F.block_count flash.old }
+        ensures block_size { F.block_len flash.new ≡ F.block_len flash.old }
+        ensures cause { HasCause (F.faults flash.old) (F.faults flash.new) result };
+
+    /// How many places are not staged.
+    fn missing(&self) -> u32
+        ensures { result ≡ missing_below (has self.now) (plan_of self.now).places };
+
+    /// The CRC of the bytes of a module, all of whose places are staged. It changes nothing.
+    fn module_crc<F: Flash>(
+        &mut self,
+        bank: &mut Bank,
+        flash: &mut F,
+        module: &ModulePlan,
+    ) -> Result<u32, FlashFault>
+        requires lent { IsLent F.tells F.contents F.block_count F.block_len bank.old flash.old }
+        requires ready { ready self.old bank.old }
+        requires agrees { F.tells → agrees self.old bank.old (F.contents flash.old) }
+        requires module { Contains (plan_of self.old).modules «module».now }
+        requires whole { (k : ℕ) → k < «module».now.blocks → has self.old («module».now.first + k) ≡ true }
+        ensures lent { OnOk result (IsLent F.tells F.contents F.block_count F.block_len bank.new flash.new) }
+        ensures ready { OnOk result (ready self.new bank.new) }
+        ensures agrees { F.tells → OnOk result (agrees self.new bank.new (F.contents flash.new)) }
+        ensures plan { plan_of self.new ≡ plan_of self.old }
+        ensures crc { F.tells → IfOk result (λ crc. crc
+            ≡ crc_of (module_text (bytes_at self.old bank.old (F.contents flash.old)) «module».now)) }
+        ensures same { (number : ℕ) → has self.new number ≡ has self.old number }
+        ensures same_bytes { F.tells → (number : ℕ)
+            → bytes_at self.new bank.new (F.contents flash.new) number ≡ bytes_at self.old bank.old (F.contents flash.old) number }
+        ensures reads { OnlyReads F.tells F.contents F.block_count F.block_len F.moment F.left_since flash.old flash.new }
+        ensures begun { is_begun bank.new ≡ is_begun bank.old }
+        ensures spent { OnErr result (is_spent bank.new ≡ true) }
+        ensures same_bank { SameBank bank.old bank.new }
+        ensures most { most self.new ≡ most self.old }
+        ensures cause { HasCause (F.faults flash.old) (F.faults flash.new) result };
+
+    /// Installs the group, of which no place is missing: the places, joined, become the image of the next record.
+    fn finish<F: Flash>(
+        &mut self,
+        bank: &mut Bank,
+        flash: &mut F,
+        software: SwId,
+        group: u32,
+    ) -> Result<(), FlashFault>
+        requires lent { IsLent F.tells F.contents F.block_count F.block_len bank.old flash.old }
+        requires ready { ready self.old bank.old }
+        requires agrees { F.tells → agrees self.old bank.old (F.contents flash.old) }
+        requires whole { missing_below (has self.old) (plan_of self.old).places ≡ 0 }
+        requires next_fits { (current_of bank.old).number < 4294967295 }
+        ensures lent { OnOk result (IsLent F.tells F.contents F.block_count F.block_len bank.new flash.new) }
+        ensures current { OnOk result (current_of bank.new ≡ next_record bank.old (plan_of self.old).total software group) }
+        ensures block { OnOk result (block_of bank.new ≡ 1 - block_of bank.old) }
+        ensures done { F.tells → OnOk result (Installs bank.old (next_record bank.old (plan_of self.old).total software group)
+            (group_text (bytes_at self.old bank.old (F.contents flash.old)) (plan_of self.old))
+            (F.contents flash.old) (F.contents flash.new)) }
+        ensures held { F.tells → FinishLeaves bank.old (next_record bank.old (plan_of self.old).total software group)
+            (group_text (bytes_at self.old bank.old (F.contents flash.old)) (plan_of self.old))
+            (F.contents flash.old) (F.contents flash.new) }
+        ensures left { F.tells → LeavesOnly F.moment F.left_since flash.old flash.new
+            (FinishLeaves bank.old (next_record bank.old (plan_of self.old).total software group)
+            (group_text (bytes_at self.old bank.old (F.contents flash.old)) (plan_of self.old))
+            (F.contents flash.old)) }
+        ensures begun { OnOk result (is_begun bank.new ≡ false) }
+        ensures spent { OnErr result (is_spent bank.new ≡ true) }
+        ensures same_bank { OnErr result (SameBank bank.old bank.new) }
+        ensures geometry { geometry_of bank.new ≡ geometry_of bank.old }
+        ensures most { most self.new ≡ most self.old }
+        ensures blocks { F.block_count flash.new ≡ F.block_count flash.old }
+        ensures block_size { F.block_len flash.new ≡ F.block_len flash.old }
+        ensures cause { HasCause (F.faults flash.old) (F.faults flash.new) result };
+
+    /// In the bank each place stands in its own range.
+    ghost in_bank: { IN_BANK ≡ true → (stage : Self) (bank : Bank) (held : List ℕ) (number : ℕ) (p : Place)
+        → place_of (plan_of stage) number ≡ Some p
+        → bytes_at stage bank held number ≡ part held (spare_bank bank + p.at) p.len };
+}
