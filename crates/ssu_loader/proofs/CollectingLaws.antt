@@ -1,0 +1,265 @@
+-- What the collector stands for, with one section more.
+use Rattle.std.proofs.Common.{◌≡◌, inl, inr, ⊎_elim, ℕ, ◌<◌, ◌≤◌, List, ◌∷◌, Option, Some, None, refl, sym, ap, subst, ◌∙◌, arith}
+use Rattle.std.specs.Prelude.{IsSome, IfNone, IfSome, is_some}
+use Rattle.flash_dev.specs.declared.device.Flash.{Ghosts as FlashGhosts}
+use Rattle.flash_bank.specs.Bank.{current_of, next_record}
+use Rattle.flash_bank.specs.Layout.{Geometry, bank_len}
+use Rattle.flash_bank.specs.declared.bank.Bank.{Bank}
+use Rattle.flash_bank.specs.declared.record.Record.{Record}
+use Rattle.flash_stage.specs.declared.stage.Stage.{Ghosts as StageGhosts}
+use Rattle.flash_stage.specs.Leaving.{Installs, SameBank, StageLeaves}
+use Rattle.flash_stage.specs.Outline.{outline_of}
+use Rattle.flash_stage.proofs.LeavingLaws.{bank_itself}
+use Rattle.flash_stage.proofs.TextLaws.{one_outline}
+use Rattle.ts_section.specs.Events.{Heard}
+use Rattle.ssu_answer.specs.declared.chosen.Chosen.{Chosen}
+use Rattle.ssu_compat.specs.declared.rule.SwId.{SwId}
+use Rattle.ssu_group.specs.declared.group_plan.GroupPlan.{GroupPlan}
+use Rattle.ssu_group.specs.Carried.{missing_places}
+use Rattle.route_tables.specs.Values.{Receiver}
+use Rattle.ssu_route.specs.declared.change.Change.TheVariants as change
+use Rattle.ssu_route.specs.declared.change.Change.{Change}
+use Rattle.ssu_route.specs.declared.choice.Choice.{Choice}
+use Rattle.ssu_route.specs.declared.route.Route.{Route}
+use Rattle.ssu_route.specs.Choosing.{level_7}
+use Rattle.ssu_route.specs.Route.{Stands}
+use Rattle.ssu_route.specs.Windows.{IsChoice, beginnings, change_at, window}
+use Rattle.ssu_route.proofs.Choices.{none_begins, same_stays}
+use Rattle.ssu_loader.specs.declared.collector.Collector.{Collector}
+use Rattle.ssu_loader.specs.declared.verdict.Verdict.{Verdict}
+use Rattle.ssu_loader.specs.declared.verdict.Verdict.TheVariants.{Installed, Nothing, Incomplete, BadModule, Unsettled}
+use Rattle.ssu_loader.specs.Collecting.{Collects, Gathers, HasFilled, HoldsFilling, IsAhead, Works}
+use Rattle.ssu_loader.specs.Decisions.{IsOpen, IsStanding, Whole, Wrong, chosen_of}
+use Rattle.ssu_loader.specs.Leaving.{Ends, GoesOn, SectionsLeave}
+use Rattle.ssu_loader.specs.Settling.{IsOfGroup, Settles, SettlingLeaves}
+use Rattle.ssu_loader.specs.Verdicts.{IsSeen, IsSettled}
+use Rattle.ssu_loader.proofs.ChoiceLaws.{choice_back, choice_stands, no_choice}
+use Rattle.ssu_loader.proofs.DecisionLaws.{filled_settles, missing_decides, none_decides, not_too_many, one_choice, open_more, reached_now, some_missing}
+use Rattle.ssu_group.proofs.SamePlans.{IsSamePlan, same_filling}
+
+-- ---- a decision
+
+-- the group of the choice is settled with the newest section
+pub settled_ends : (me : Receiver) (item : Heard) (heard : List Heard) (choice : Choice) (bank : Bank) (x y : List ℕ) (v : Verdict) → IsOpen me heard → IsStanding me (item ∷ heard) choice
+    → Settles choice (window me (item ∷ heard)) bank x y v → Ends me (item ∷ heard) bank x y v
+settled_ends me item heard choice bank x y (Installed chosen) undecided is settles =
+    let installs = settles.1 in
+    record {
+      image = installs.image;
+      reached = reached_now me item heard (Whole chosen installs.image) undecided (record { choice = choice; standing = is; is = settles.0; whole = installs.whole });
+      installs = subst (λ (c : Chosen). Installs bank (next_record bank c.bytes c.software c.group) installs.image x y) (sym settles.0) installs.installs;
+    }
+settled_ends me item heard choice bank x y (BadModule id want found) undecided is settles =
+    let wrong = settles.0 in (
+      reached_now me item heard (Wrong id want found) undecided
+          (record { choice = choice; standing = is; filled = wrong.filled; module_plan = wrong.module_plan; first = wrong.first; own_id = wrong.own_id; wanted = wrong.wanted; has = wrong.has }),
+      settles.1,
+    )
+settled_ends me item heard choice bank x y (Nothing level) undecided is settles = absurd settles
+settled_ends me item heard choice bank x y (Incomplete chosen count) undecided is settles = absurd settles
+settled_ends me item heard choice bank x y Unsettled undecided is settles = absurd settles
+
+pub settling_leaves : (me : Receiver) (item : Heard) (heard : List Heard) (choice : Choice) (bank : Bank) (x y : List ℕ) → IsOpen me heard → IsStanding me (item ∷ heard) choice
+    → SettlingLeaves choice (window me (item ∷ heard)) bank x y → SectionsLeave me (item ∷ heard) bank x y
+settling_leaves me item heard choice bank x y undecided is =
+    ⊎_elim (λ keeps. inl keeps) (λ installs. inr (chosen_of choice, settled_ends me item heard choice bank x y (Installed (chosen_of choice)) undecided is (refl, installs)))
+
+-- a choice that begins is no verdict
+pub begun_seen : (me : Receiver) (heard : List Heard) (answer : Option Verdict) → IfSome answer (λ verdict. ⊥) → IsOpen me heard → IsSeen me heard answer
+begun_seen me heard None never undecided = undecided
+begun_seen me heard (Some v) never undecided = absurd never
+
+module _ {S F : Type 0} (s : StageGhosts S) (f : FlashGhosts F) where
+  -- ---- the same plan
+
+  same_outline : (a b : GroupPlan) → IsSamePlan a b → outline_of a ≡ outline_of b
+  same_outline a b same = one_outline a b same.block_size same.modules
+
+  works_for : (a b : GroupPlan) (stage : S) (bank : Bank) (flash : F) → IsSamePlan a b → Works s f a stage bank flash → Works s f b stage bank flash
+  works_for a b stage bank flash same works = record {
+    lent = works.lent;
+    ready = works.ready;
+    agrees = works.agrees;
+    planned = works.planned ∙ same_outline a b same;
+    next_fits = works.next_fits;
+  }
+
+  filled_for : (a b : GroupPlan) (window : List (List ℕ)) (stage : S) → IsSamePlan a b → HasFilled s a window stage → HasFilled s b window stage
+  filled_for a b window stage same filled n below =
+      filled n (subst (λ (k : ℕ). n < k) (sym same.places) below) ∙ ap is_some (same_filling a b window n same)
+
+  holds_for : (a b : GroupPlan) (window : List (List ℕ)) (stage : S) (bank : Bank) (contents : List ℕ) → IsSamePlan a b
+      → HoldsFilling s a window stage bank contents → HoldsFilling s b window stage bank contents
+  holds_for a b window stage bank contents same holds n bytes below e =
+      holds n bytes (subst (λ (k : ℕ). n < k) (sym same.places) below) (same_filling a b window n same ∙ e)
+
+  -- ---- one section more
+
+  -- no choice stands
+  pub none_collects : (me : Receiver) (item : Heard) (heard : List Heard) (c : Collector S) (flash : F) → Stands me (item ∷ heard) c.route
+      → (change_at me item heard ≡ change.Chosen → ⊥) → level_7 me (item ∷ heard) ≡ None → Gathers s f me heard c flash → Collects s f me (item ∷ heard) c flash
+  none_collects me item heard c flash stands other none g = record {
+    stands = stands;
+    gathers = record {
+      len = g.len;
+      runs = g.runs;
+      lent = g.lent;
+      made_for = g.made_for;
+      next_fits = g.next_fits;
+      knows = record {
+        undecided = open_more me item heard g.knows.undecided (none_decides me (item ∷ heard) none (not_too_many me item heard other));
+        counted = g.knows.counted ∙ sym (none_begins me item heard other);
+        few = g.knows.few;
+        planned = λ choice is. absurd (no_choice me (item ∷ heard) choice none is);
+        filled = λ choice is. absurd (no_choice me (item ∷ heard) choice none is);
+      };
+      works = λ choice is. absurd (no_choice me (item ∷ heard) choice none is);
+      told = λ tells choice is. absurd (no_choice me (item ∷ heard) choice none is);
+    };
+  }
+
+  -- a choice stands, and the stage has gone on with it
+  pub choice_collects : (me : Receiver) (item : Heard) (heard : List Heard) (old new : Collector S) (flash flash' : F) (choice : Choice) → Stands me (item ∷ heard) new.route
+      → IsChoice me (item ∷ heard) choice → Gathers s f me heard old flash → SameBank old.bank new.bank → s.most new.stage ≡ s.most old.stage → new.choices ≡ beginnings me (item ∷ heard)
+      → new.choices ≤ 16 → Works s f choice.plan new.stage new.bank flash' → IsOpen me (item ∷ heard) → HasFilled s choice.plan (window me (item ∷ heard)) new.stage
+      → (f.tells → HoldsFilling s choice.plan (window me (item ∷ heard)) new.stage new.bank (f.contents flash')) → Collects s f me (item ∷ heard) new flash'
+  choice_collects me item heard old new flash flash' choice stands is g bank most counted few works undecided filled holds = record {
+    stands = stands;
+    gathers = record {
+      len = g.len ∙ ap (λ (x : Geometry). bank_len x) (sym bank.geometry);
+      runs = g.runs ∙ ap (λ (r : Record). r.software) (sym bank.current);
+      lent = works.lent;
+      made_for = most ∙ g.made_for ∙ ap (λ (x : Geometry). bank_len x) (sym bank.geometry);
+      next_fits = works.next_fits;
+      knows = record {
+        undecided = undecided;
+        counted = counted;
+        few = few;
+        planned = λ other own. works.planned ∙ same_outline choice.plan other.plan (one_choice me (item ∷ heard) choice other is own).plan;
+        filled = λ other own. filled_for choice.plan other.plan (window me (item ∷ heard)) new.stage (one_choice me (item ∷ heard) choice other is own).plan filled;
+      };
+      works = λ other own. works_for choice.plan other.plan new.stage new.bank flash' (one_choice me (item ∷ heard) choice other is own).plan works;
+      told = λ tells other own. holds_for choice.plan other.plan (window me (item ∷ heard)) new.stage new.bank (f.contents flash') (one_choice me (item ∷ heard) choice other is own).plan (holds tells);
+    };
+  }
+
+-- ---- a section that changes nothing
+
+module _ {S F : Type 0} (s : StageGhosts S) (f : FlashGhosts F) (me : Receiver) (item : Heard) (heard : List Heard) (c : Collector S) (flash : F) (choice : Choice)
+    (ahead : IsAhead s f me item heard change.Same c flash) (is : IsChoice me (item ∷ heard) choice) (some : IsSome (level_7 me (item ∷ heard))) where
+  pub was : IsChoice me heard choice
+  was = choice_back me item heard choice ahead.changes some is
+
+  not_chosen : change_at me item heard ≡ change.Chosen → ⊥
+  not_chosen chosen = let both : change.Same ≡ change.Chosen = sym ahead.changes ∙ chosen in absurd cc
+
+  count : c.choices ≡ beginnings me (item ∷ heard)
+  count = ahead.gathers.knows.counted ∙ sym (none_begins me item heard not_chosen)
+
+  few : beginnings me (item ∷ heard) ≤ 16
+  few = let all = count in let most = ahead.gathers.knows.few in omega (arith, all, most)
+
+  pub stands_now : IsStanding me (item ∷ heard) choice
+  stands_now = choice_stands me (item ∷ heard) choice few some is
+
+  some_before : IsSome (level_7 me heard)
+  some_before = subst IsSome (same_stays me item heard ahead.changes) some
+
+  few_before : beginnings me heard ≤ 16
+  few_before = let all = ahead.gathers.knows.counted in let most = ahead.gathers.knows.few in omega (arith, all, most)
+
+  -- it is no block of the choice
+  pub passed_collects : window me (item ∷ heard) ≡ window me heard → Collects s f me (item ∷ heard) c flash
+  passed_collects same =
+      choice_collects s f me item heard c c flash flash choice ahead.stands is ahead.gathers (bank_itself c.bank) refl count ahead.gathers.knows.few (ahead.gathers.works choice was)
+      (open_more me item heard ahead.gathers.knows.undecided
+      (missing_decides me (item ∷ heard) choice is
+      (subst (λ (w : List (List ℕ)). 1 ≤ missing_places choice.plan w) (sym same)
+      (some_missing me heard choice ahead.gathers.knows.undecided (choice_stands me heard choice few_before some_before was)))
+      (not_too_many me item heard not_chosen)))
+      (subst (λ (w : List (List ℕ)). HasFilled s choice.plan w c.stage) (sym same) (ahead.gathers.knows.filled choice was))
+      (λ tells. subst (λ (w : List (List ℕ)). HoldsFilling s choice.plan w c.stage c.bank (f.contents flash)) (sym same) (ahead.gathers.told tells choice was))
+
+  module _ (joins : window me (item ∷ heard) ≡ item.section ∷ window me heard) where
+    -- it was taken, and a place is missing still
+    pub taken_collects : (stage' : S) (bank' : Bank) (flash' : F) → Works s f choice.plan stage' bank' flash' → SameBank c.bank bank' → s.most stage' ≡ s.most c.stage
+        → HasFilled s choice.plan (item.section ∷ window me heard) stage' × (1 ≤ missing_places choice.plan (item.section ∷ window me heard))
+        → (f.tells → HoldsFilling s choice.plan (item.section ∷ window me heard) stage' bank' (f.contents flash'))
+        → Collects s f me (item ∷ heard) (record { bank = bank'; stage = stage'; route = c.route; choices = c.choices }) flash'
+    taken_collects stage' bank' flash' works bank most filled holds =
+        choice_collects s f me item heard c (record { bank = bank'; stage = stage'; route = c.route; choices = c.choices }) flash flash' choice ahead.stands is ahead.gathers bank most count ahead.gathers.knows.few works
+        (open_more me item heard ahead.gathers.knows.undecided
+        (missing_decides me (item ∷ heard) choice is (subst (λ (w : List (List ℕ)). 1 ≤ missing_places choice.plan w) (sym joins) filled.1)
+        (not_too_many me item heard not_chosen)))
+        (subst (λ (w : List (List ℕ)). HasFilled s choice.plan w stage') (sym joins) filled.0)
+        (λ tells. subst (λ (w : List (List ℕ)). HoldsFilling s choice.plan w stage' bank' (f.contents flash')) (sym joins) (holds tells))
+
+    pub taken_filled : HasFilled s choice.plan (window me heard) c.stage
+    taken_filled = ahead.gathers.knows.filled choice was
+
+    -- all places are filled by the newest section
+    settled : missing_places choice.plan (item.section ∷ window me heard) ≡ 0 → IsSettled me (item ∷ heard)
+    settled filled =
+        ⊎_elim (λ whole. inl (whole.0, whole.1, reached_now me item heard (Whole whole.0 whole.1) ahead.gathers.knows.undecided whole.2))
+        (λ wrong. inr (wrong.0, wrong.1, wrong.2, reached_now me item heard (Wrong wrong.0 wrong.1 wrong.2) ahead.gathers.knows.undecided wrong.3))
+        (filled_settles me (item ∷ heard) choice stands_now (ap (missing_places choice.plan) joins ∙ filled))
+
+    -- what is seen of it
+    pub taken_seen : (stage' : S) (answer : Option Verdict)
+        → IfNone answer (HasFilled s choice.plan (item.section ∷ window me heard) stage' × (1 ≤ missing_places choice.plan (item.section ∷ window me heard)))
+        → IfSome answer (λ verdict. IsOfGroup verdict × (missing_places choice.plan (item.section ∷ window me heard) ≡ 0)) → IsSeen me (item ∷ heard) answer
+    taken_seen stage' None filled whole =
+        open_more me item heard ahead.gathers.knows.undecided
+        (missing_decides me (item ∷ heard) choice is (subst (λ (w : List (List ℕ)). 1 ≤ missing_places choice.plan w) (sym joins) filled.1) (not_too_many me item heard not_chosen))
+    taken_seen stage' (Some (Installed chosen)) filled whole = settled whole.1
+    taken_seen stage' (Some (BadModule id want found)) filled whole = settled whole.1
+    taken_seen stage' (Some (Nothing level)) filled whole = absurd whole.0
+    taken_seen stage' (Some (Incomplete chosen n)) filled whole = absurd whole.0
+    taken_seen stage' (Some Unsettled) filled whole = absurd whole.0
+
+    module _ (tells : f.tells) where
+      pub taken_holds : HoldsFilling s choice.plan (window me heard) c.stage c.bank (f.contents flash)
+      taken_holds = ahead.gathers.told tells choice was
+
+      -- what is answered
+      pub taken_goes_on : (x z : List ℕ) (answer : Option Verdict) → IfNone answer (StageLeaves c.bank x z)
+          → IfSome answer (Settles choice (item.section ∷ window me heard) c.bank x z) → GoesOn me (item ∷ heard) c.bank x z answer
+      taken_goes_on x z None leaves settles = leaves
+      taken_goes_on x z (Some v) leaves settles =
+          settled_ends me item heard choice c.bank x z v ahead.gathers.knows.undecided stands_now
+          (subst (λ (w : List (List ℕ)). Settles choice w c.bank x z v) (sym joins) settles)
+
+      pub taken_leaves : (x z : List ℕ) → SettlingLeaves choice (item.section ∷ window me heard) c.bank x z → SectionsLeave me (item ∷ heard) c.bank x z
+      taken_leaves x z leaves =
+          settling_leaves me item heard choice c.bank x z ahead.gathers.knows.undecided stands_now
+          (subst (λ (w : List (List ℕ)). SettlingLeaves choice w c.bank x z) (sym joins) leaves)
+
+-- ---- the route goes ahead
+
+module _ {S F : Type 0} (s : StageGhosts S) (f : FlashGhosts F) (me : Receiver) (heard : List Heard) where
+  abbrev with_route : Collector S → Route → Collector S
+  with_route c route = record { bank = c.bank; stage = c.stage; route = route; choices = c.choices }
+
+  pub gathers_with : (c : Collector S) (route : Route) (flash : F) → Gathers s f me heard c flash → Gathers s f me heard (with_route c route) flash
+  gathers_with c route flash g = record {
+    len = g.len;
+    runs = g.runs;
+    lent = g.lent;
+    made_for = g.made_for;
+    next_fits = g.next_fits;
+    knows = record { undecided = g.knows.undecided; counted = g.knows.counted; few = g.knows.few; planned = g.knows.planned; filled = g.knows.filled };
+    works = g.works;
+    told = g.told;
+  }
+
+  pub goes_ahead : (item : Heard) (c : Collector S) (route : Route) (flash : F) (software : SwId) (what answered : Change) → Collects s f me heard c flash → software ≡ (current_of c.bank).software
+      → ((me : Receiver) (heard : List Heard) → Stands me heard c.route → me.running ≡ software → Stands me (item ∷ heard) route)
+      → ((me : Receiver) (heard : List Heard) → Stands me heard c.route → me.running ≡ software → answered ≡ change_at me item heard)
+      → answered ≡ what → IsAhead s f me item heard what (with_route c route) flash
+  goes_ahead item c route flash software what answered collects is stands changes answer =
+      let runs : me.running ≡ software = collects.gathers.runs ∙ sym is in
+      record {
+        stands = stands me heard collects.stands runs;
+        changes = sym (changes me heard collects.stands runs) ∙ answer;
+        gathers = gathers_with c route flash collects.gathers;
+      }

@@ -1,0 +1,231 @@
+-- The sections of one packet, one after the other.
+use Rattle.std.proofs.Common.{◌≡◌, inl, inr, ⊎_elim, ℕ, zero, suc, ◌+◌, ◌-◌, ◌≤◌, List, [], ◌∷◌, ◌++◌, map, reverse, take, drop, length, Option, Some, None, refl, sym, ap, subst, ◌∙◌, arith, append_assoc}
+use Rattle.std.proofs.lemmas.List.{map-append, reverse-append, take-append-drop}
+use Rattle.std.specs.List.{slice_get}
+use Rattle.flash_dev.specs.declared.device.Flash.{Ghosts as FlashGhosts}
+use Rattle.flash_dev.specs.Moments.{LeavesOnly}
+use Rattle.flash_dev.proofs.Moments.{joined, weaker}
+use Rattle.flash_stage.specs.declared.stage.Stage.{Ghosts as StageGhosts}
+use Rattle.flash_bank.specs.Bank.{Fits, IsLent, next_record}
+use Rattle.flash_bank.specs.declared.bank.Bank.{Bank}
+use Rattle.flash_bank.specs.declared.record.Record.{Record}
+use Rattle.flash_stage.specs.Leaving.{Installs, SameBank, StageLeaves}
+use Rattle.flash_stage.proofs.LeavingLaws.{bank_itself, banks_joined, installs_joined, installs_moved, leaves_joined, leaves_moved, leaves_same}
+use Rattle.ts_section.specs.Events.{Heard}
+use Rattle.ssu_answer.specs.declared.chosen.Chosen.{Chosen}
+use Rattle.route_tables.specs.Next.{heard_on}
+use Rattle.route_tables.specs.Values.{Receiver}
+use Rattle.ssu_route.specs.Queries.{after_all}
+use Rattle.ssu_loader.specs.declared.verdict.Verdict.{Verdict}
+use Rattle.ssu_loader.specs.declared.verdict.Verdict.TheVariants.{Installed, Nothing, Incomplete, BadModule, Unsettled}
+use Rattle.ssu_route.proofs.Following.{after_one_more}
+use Rattle.ssu_loader.specs.declared.collector.Collector.{Collector}
+use Rattle.ssu_loader.specs.Collecting.{Collects, IsUsable}
+use Rattle.ssu_loader.specs.Decisions.{IsOpen, TooMany, Whole, Wrong}
+use Rattle.ssu_loader.specs.Leaving.{Ends, GoesOn, InstallsChosen, SectionsLeave}
+use Rattle.ssu_loader.proofs.LeftLaws.{left_now}
+use Rattle.ssu_route.specs.Windows.{beginnings, change_at}
+use Rattle.ssu_loader.specs.Verdicts.{IsSeen, IsSettled}
+use Rattle.ssu_loader.proofs.ChoiceLaws.{began_before, begun_more}
+use Rattle.ssu_loader.proofs.DecisionLaws.{reaches_more}
+
+-- ---- more sections come
+
+pub chosen_more : (me : Receiver) (later heard : List Heard) (bank : Bank) (x y : List ℕ) (chosen : Chosen) → InstallsChosen me heard bank x y chosen → InstallsChosen me (later ++ heard) bank x y chosen
+chosen_more me later heard bank x y chosen is = record {
+  image = is.image;
+  reached = reaches_more me later heard (Whole chosen is.image) is.reached;
+  installs = is.installs;
+}
+
+pub leaves_more : (me : Receiver) (later heard : List Heard) (bank : Bank) (x y : List ℕ) → SectionsLeave me heard bank x y → SectionsLeave me (later ++ heard) bank x y
+leaves_more me later heard bank x y = ⊎_elim (λ keeps. inl keeps) (λ is. inr (is.0, chosen_more me later heard bank x y is.0 is.1))
+
+pub ends_more : (me : Receiver) (later heard : List Heard) (bank : Bank) (x y : List ℕ) (v : Verdict) → Ends me heard bank x y v → Ends me (later ++ heard) bank x y v
+ends_more me later heard bank x y (Installed chosen) is = chosen_more me later heard bank x y chosen is
+ends_more me later heard bank x y (BadModule id want found) is = (reaches_more me later heard (Wrong id want found) is.0, is.1)
+ends_more me later heard bank x y Unsettled is = (reaches_more me later heard TooMany is.0, is.1)
+ends_more me later heard bank x y (Nothing level) is = absurd is.0
+ends_more me later heard bank x y (Incomplete chosen count) is = absurd is.0
+
+-- ---- from an earlier moment on
+
+pub chosen_from : (me : Receiver) (heard : List Heard) (old new : Bank) (x y z : List ℕ) (chosen : Chosen) → Fits old x → SameBank old new → StageLeaves old x y → InstallsChosen me heard new y z chosen
+    → InstallsChosen me heard old x z chosen
+chosen_from me heard old new x y z chosen fits same leaves is = record {
+  image = is.image;
+  reached = is.reached;
+  installs = installs_joined old (next_record old chosen.bytes chosen.software chosen.group) is.image x y z fits leaves
+      (installs_moved old new (next_record old chosen.bytes chosen.software chosen.group) is.image y z same
+      (subst (λ (r : Record). Installs new (record { number = r.number + 1; bank = 1 - r.bank; length = chosen.bytes; software = chosen.software; group = chosen.group }) is.image y z)
+      same.current is.installs));
+}
+
+pub leaves_from : (me : Receiver) (heard : List Heard) (old new : Bank) (x y z : List ℕ) → Fits old x → SameBank old new → StageLeaves old x y → SectionsLeave me heard new y z → SectionsLeave me heard old x z
+leaves_from me heard old new x y z fits same leaves =
+    ⊎_elim (λ keeps. inl (leaves_joined old x y z leaves (leaves_moved old new y z same keeps))) (λ is. inr (is.0, chosen_from me heard old new x y z is.0 fits same leaves is.1))
+
+pub ends_from : (me : Receiver) (heard : List Heard) (old new : Bank) (x y z : List ℕ) (v : Verdict) → Fits old x → SameBank old new → StageLeaves old x y → Ends me heard new y z v → Ends me heard old x z v
+ends_from me heard old new x y z (Installed chosen) fits same leaves is = chosen_from me heard old new x y z chosen fits same leaves is
+ends_from me heard old new x y z (BadModule id want found) fits same leaves is = (is.0, leaves_joined old x y z leaves (leaves_moved old new y z same is.1))
+ends_from me heard old new x y z Unsettled fits same leaves is = (is.0, leaves_joined old x y z leaves (leaves_moved old new y z same is.1))
+ends_from me heard old new x y z (Nothing level) fits same leaves is = absurd is.0
+ends_from me heard old new x y z (Incomplete chosen count) fits same leaves is = absurd is.0
+
+-- ---- the sections of a packet
+
+-- those so far, and the others
+pub after_rest : (pid : ℕ) (sections : List (List ℕ)) (k : ℕ) (before : List Heard)
+    → after_all pid sections before ≡ reverse (map (heard_on pid) (drop k sections)) ++ after_all pid (take k sections) before
+after_rest pid sections k before =
+    ap (λ (xs : List (List ℕ)). reverse (map (heard_on pid) xs) ++ before) (sym (take-append-drop k sections))
+    ∙ ap (λ (xs : List Heard). reverse xs ++ before) (map-append (heard_on pid) (take k sections) (drop k sections))
+    ∙ ap (λ (xs : List Heard). xs ++ before) (reverse-append (map (heard_on pid) (take k sections)) (map (heard_on pid) (drop k sections)))
+    ∙ append_assoc (reverse (map (heard_on pid) (drop k sections))) (reverse (map (heard_on pid) (take k sections))) before
+
+settled_more : (me : Receiver) (later heard : List Heard) → IsSettled me heard → IsSettled me (later ++ heard)
+settled_more me later heard =
+    ⊎_elim (λ whole. inl (whole.0, whole.1, reaches_more me later heard (Whole whole.0 whole.1) whole.2))
+    (λ wrong. inr (wrong.0, wrong.1, wrong.2, reaches_more me later heard (Wrong wrong.0 wrong.1 wrong.2) wrong.3))
+
+pub seen_more : (me : Receiver) (later heard : List Heard) (v : Verdict) → IsSeen me heard (Some v) → IsSeen me (later ++ heard) (Some v)
+seen_more me later heard (Installed chosen) seen = settled_more me later heard seen
+seen_more me later heard (BadModule id want found) seen = settled_more me later heard seen
+seen_more me later heard Unsettled seen = reaches_more me later heard TooMany seen
+seen_more me later heard (Nothing level) seen = absurd seen
+seen_more me later heard (Incomplete chosen count) seen = absurd seen
+
+-- where nothing is decided, nothing is installed
+pub leaves_open : (me : Receiver) (heard : List Heard) (bank : Bank) (x y : List ℕ) → IsOpen me heard → SectionsLeave me heard bank x y → StageLeaves bank x y
+leaves_open me heard bank x y undecided = ⊎_elim (λ keeps. keeps) (λ is. absurd (undecided (Whole is.0 is.1.image) is.1.reached))
+
+pub goes_on_none : (me : Receiver) (heard : List Heard) (bank : Bank) (x y : List ℕ) (answer : Option Verdict) → answer ≡ None → GoesOn me heard bank x y answer → StageLeaves bank x y
+goes_on_none me heard bank x y None is goes = goes
+goes_on_none me heard bank x y (Some v) is goes = absurd cc
+
+pub goes_on_some : (me : Receiver) (heard : List Heard) (bank : Bank) (x y : List ℕ) (answer : Option Verdict) (v : Verdict) → answer ≡ Some v → GoesOn me heard bank x y answer → Ends me heard bank x y v
+goes_on_some me heard bank x y None v is goes = absurd cc
+goes_on_some me heard bank x y (Some w) v is goes = let same : w ≡ v = cc in subst (λ (u : Verdict). Ends me heard bank x y u) same goes
+
+module _ {S F : Type 0} (s : StageGhosts S) (f : FlashGhosts F) where
+  -- So many sections were heard, and nothing was decided.
+  pub record HeardSoFar (pid : ℕ) (each : List (List ℕ)) (k : ℕ) (old : Collector S) (before : F) (new : Collector S) (now : F) : Type 0 where
+    pub collects : (me : Receiver) (heard : List Heard) → Collects s f me heard old before → Collects s f me (after_all pid (take k each) heard) new now
+    pub untouched : (me : Receiver) (heard : List Heard) → Collects s f me heard old before → beginnings me (after_all pid (take k each) heard) ≡ 0 → now ≡ before
+    pub bank : SameBank old.bank new.bank
+    pub lent : IsLent f.tells f.contents f.block_count f.block_len new.bank now
+    pub leaves : f.tells → StageLeaves old.bank (f.contents before) (f.contents now)
+    pub left : f.tells → LeavesOnly f.moment f.left_since before now (StageLeaves old.bank (f.contents before))
+    pub blocks : f.block_count now ≡ f.block_count before
+    pub block_size : f.block_len now ≡ f.block_len before
+    pub later : f.faults before ≤ f.faults now
+
+  pub heard_none : ((flash : F) (c : List ℕ) → f.left_since flash (f.moment flash) c → c ≡ f.contents flash) → (pid : ℕ) (each : List (List ℕ)) (c : Collector S) (flash : F)
+      → IsUsable s f c flash → HeardSoFar pid each 0 c flash c flash
+  heard_none only pid each c flash usable = record {
+    collects = λ me heard col. col;
+    untouched = λ me heard col none. refl;
+    bank = bank_itself c.bank;
+    lent = usable.collects.gathers.lent;
+    leaves = λ tells. leaves_same c.bank (f.contents flash) (usable.collects.gathers.lent.fits tells).sound;
+    left = λ tells. left_now f only flash (StageLeaves c.bank (f.contents flash)) (leaves_same c.bank (f.contents flash) (usable.collects.gathers.lent.fits tells).sound);
+    blocks = refl;
+    block_size = refl;
+    later = omega arith;
+  }
+
+  module _ (pid : ℕ) (each : List (List ℕ)) (k : ℕ) (old : Collector S) (before : F) (mid : Collector S) (between : F) (new : Collector S) (now : F) (section : List ℕ)
+      (sofar : HeardSoFar pid each k old before mid between) (usable : IsUsable s f old before) (at : slice_get each k ≡ Some section) where
+    abbrev earlier : List Heard → List Heard
+    earlier heard = after_all pid (take k each) heard
+
+    -- the next section was heard, and nothing is decided
+    pub heard_more : ((me : Receiver) (heard : List Heard) → Collects s f me heard mid between → Collects s f me (heard_on pid section ∷ heard) new now)
+        → (f.tells → (me : Receiver) (heard : List Heard) → Collects s f me heard mid between → StageLeaves mid.bank (f.contents between) (f.contents now))
+        → (f.tells → (me : Receiver) (heard : List Heard) → Collects s f me heard mid between
+        → LeavesOnly f.moment f.left_since between now (SectionsLeave me (heard_on pid section ∷ heard) mid.bank (f.contents between)))
+        → ((me : Receiver) (heard : List Heard) → Collects s f me heard mid between → beginnings me (heard_on pid section ∷ heard) ≡ 0 → now ≡ between)
+        → SameBank mid.bank new.bank → IsLent f.tells f.contents f.block_count f.block_len new.bank now → f.block_count now ≡ f.block_count between → f.block_len now ≡ f.block_len between → f.faults between ≤ f.faults now
+        → HeardSoFar pid each (k + 1) old before new now
+    heard_more collects leaves left untouched bank lent blocks block_size later = record {
+      collects = λ me heard col. subst (λ (items : List Heard). Collects s f me items new now) (sym (after_one_more pid each k section heard at)) (collects me (earlier heard) (sofar.collects me heard col));
+      untouched = λ me heard col none.
+          let items = earlier heard in
+          let last : beginnings me (heard_on pid section ∷ items) ≡ 0 = ap (beginnings me) (sym (after_one_more pid each k section heard at)) ∙ none in
+          let fewer = began_before me (heard_on pid section) items (change_at me (heard_on pid section) items) refl in
+          untouched me items (sofar.collects me heard col) last ∙ sofar.untouched me heard col (omega (arith, fewer, last));
+      bank = banks_joined old.bank mid.bank new.bank sofar.bank bank;
+      lent = lent;
+      leaves = λ tells.
+          leaves_joined old.bank (f.contents before) (f.contents between) (f.contents now) (sofar.leaves tells)
+          (leaves_moved old.bank mid.bank (f.contents between) (f.contents now) sofar.bank
+          (leaves tells usable.me (earlier usable.heard) (sofar.collects usable.me usable.heard usable.collects)));
+      left = λ tells.
+          let me = usable.me in
+          let col = sofar.collects me usable.heard usable.collects in
+          let after = collects me (earlier usable.heard) col in
+          joined f.moment f.left_since before between now (StageLeaves old.bank (f.contents before)) (sofar.left tells)
+          (weaker f.moment f.left_since between now (SectionsLeave me (heard_on pid section ∷ earlier usable.heard) mid.bank (f.contents between)) (StageLeaves old.bank (f.contents before))
+          (λ y is. leaves_joined old.bank (f.contents before) (f.contents between) y (sofar.leaves tells)
+          (leaves_moved old.bank mid.bank (f.contents between) y sofar.bank
+          (leaves_open me (heard_on pid section ∷ earlier usable.heard) mid.bank (f.contents between) y after.gathers.knows.undecided is)))
+          (left tells me (earlier usable.heard) col));
+      blocks = blocks ∙ sofar.blocks;
+      block_size = block_size ∙ sofar.block_size;
+      later = let a = sofar.later in omega (arith, a, later);
+    }
+
+    -- the sections of the packet that come after the next one
+    abbrev rest : List Heard
+    rest = reverse (map (heard_on pid) (drop (k + 1) each))
+
+    all_is : (heard : List Heard) → after_all pid each heard ≡ rest ++ (heard_on pid section ∷ earlier heard)
+    all_is heard = after_rest pid each (k + 1) heard ∙ ap (λ (items : List Heard). rest ++ items) (after_one_more pid each k section heard at)
+
+    -- before any choice began, the flash is not called
+    pub heard_untouched : ((me : Receiver) (heard : List Heard) → Collects s f me heard mid between → beginnings me (heard_on pid section ∷ heard) ≡ 0 → now ≡ between)
+        → (me : Receiver) (heard : List Heard) → Collects s f me heard old before → beginnings me (after_all pid each heard) ≡ 0 → now ≡ before
+    heard_untouched untouched me heard col none =
+        let items = earlier heard in
+        let all : beginnings me (rest ++ (heard_on pid section ∷ items)) ≡ 0 = ap (beginnings me) (sym (all_is heard)) ∙ none in
+        let fewer = begun_more me rest (heard_on pid section ∷ items) in
+        let last : beginnings me (heard_on pid section ∷ items) ≡ 0 = omega (arith, fewer, all) in
+        let before_it = began_before me (heard_on pid section) items (change_at me (heard_on pid section) items) refl in
+        untouched me items (sofar.collects me heard col) last ∙ sofar.untouched me heard col (omega (arith, before_it, last))
+
+    -- what is seen at the next section
+    pub heard_seen : (me : Receiver) (heard : List Heard) (answer : Option Verdict) (v : Verdict) → answer ≡ Some v → IsSeen me (heard_on pid section ∷ earlier heard) answer → IsSeen me (after_all pid each heard) (Some v)
+    heard_seen me heard answer v is seen =
+        subst (λ (items : List Heard). IsSeen me items (Some v)) (sym (all_is heard))
+        (seen_more me rest (heard_on pid section ∷ earlier heard) v (subst (λ (o : Option Verdict). IsSeen me (heard_on pid section ∷ earlier heard) o) is seen))
+
+    module _ (tells : f.tells) (me : Receiver) (heard : List Heard) where
+      -- a decision at the next section
+      pub heard_ends : (y : List ℕ) (v : Verdict) → Ends me (heard_on pid section ∷ earlier heard) mid.bank (f.contents between) y v → Ends me (after_all pid each heard) old.bank (f.contents before) y v
+      heard_ends y v ends =
+          subst (λ (items : List Heard). Ends me items old.bank (f.contents before) y v) (sym (all_is heard))
+          (ends_more me rest (heard_on pid section ∷ earlier heard) old.bank (f.contents before) y v
+          (ends_from me (heard_on pid section ∷ earlier heard) old.bank mid.bank (f.contents before) (f.contents between) y v (usable.collects.gathers.lent.fits tells) sofar.bank (sofar.leaves tells) ends))
+
+      -- what may be left meanwhile
+      pub heard_leaves : (y : List ℕ) → SectionsLeave me (heard_on pid section ∷ earlier heard) mid.bank (f.contents between) y → SectionsLeave me (after_all pid each heard) old.bank (f.contents before) y
+      heard_leaves y is =
+          subst (λ (items : List Heard). SectionsLeave me items old.bank (f.contents before) y) (sym (all_is heard))
+          (leaves_more me rest (heard_on pid section ∷ earlier heard) old.bank (f.contents before) y
+          (leaves_from me (heard_on pid section ∷ earlier heard) old.bank mid.bank (f.contents before) (f.contents between) y (usable.collects.gathers.lent.fits tells) sofar.bank (sofar.leaves tells) is))
+
+      pub heard_left : LeavesOnly f.moment f.left_since between now (SectionsLeave me (heard_on pid section ∷ earlier heard) mid.bank (f.contents between))
+          → LeavesOnly f.moment f.left_since before now (SectionsLeave me (after_all pid each heard) old.bank (f.contents before))
+      heard_left left =
+          joined f.moment f.left_since before between now (SectionsLeave me (after_all pid each heard) old.bank (f.contents before))
+          (weaker f.moment f.left_since before between (StageLeaves old.bank (f.contents before)) (SectionsLeave me (after_all pid each heard) old.bank (f.contents before)) (λ y is. inl is) (sofar.left tells))
+          (weaker f.moment f.left_since between now (SectionsLeave me (heard_on pid section ∷ earlier heard) mid.bank (f.contents between)) (SectionsLeave me (after_all pid each heard) old.bank (f.contents before))
+          heard_leaves left)
+
+-- ---- all of them
+
+pub take_whole : (xs : List (List ℕ)) (k : ℕ) → length xs ≤ k → take k xs ≡ xs
+take_whole [] zero past = refl
+take_whole [] (suc k) past = refl
+take_whole (x ∷ xs) zero past = absurd (omega (arith, past))
+take_whole (x ∷ xs) (suc k) past = ap (λ (ys : List (List ℕ)). x ∷ ys) (take_whole xs k (omega (arith, past)))

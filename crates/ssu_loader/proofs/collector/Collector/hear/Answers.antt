@@ -1,0 +1,174 @@
+use Rattle.std.proofs.Common.{◌≡◌, ◌∷◌, ap, arith, inl, sym, ◌∙◌}
+use Rattle.flash_bank.specs.declared.record.Record.{Record}
+use Rattle.flash_stage.proofs.LeavingLaws.{leaves_same}
+use Rattle.route_tables.specs.Next.{heard_on}
+use Rattle.ssu_route.specs.declared.change.Change.TheVariants as change
+use Rattle.ssu_route.proofs.Choices.{lost_none, one_more_begins}
+use Rattle.ssu_loader.specs.Leaving.{SectionsLeave}
+use Rattle.ssu_loader.proofs.CollectingLaws.{goes_ahead, none_collects}
+use Rattle.ssu_loader.proofs.DecisionLaws.{not_too_many}
+use Rattle.ssu_loader.proofs.LeftLaws.{left_now}
+use Rattle.ssu_loader.proofs.collector.Collector.hear.Goals as goal
+
+pub begin-requires : goal.begin-requires
+begin-requires g c =
+    let u = c.requires.usable in
+    let ahead = goes_ahead g.S.Stage g.F.Flash u.me u.heard (heard_on c.args.pid c.args.section.now) c.args.self.now c.hear.new.self c.args.flash.now c.current.result.software
+    change.Chosen c.hear.result u.collects
+    (ap (λ (r : Record). r.software) c.current.ensures.value) c.hear.ensures.stands c.hear.ensures.change c.in-Chosen.is in
+    record {
+      usable = record { me = u.me; item = heard_on c.args.pid c.args.section.now; heard = u.heard; ahead = ahead };
+    }
+
+pub take-requires : goal.take-requires
+take-requires g c =
+    let u = c.requires.usable in
+    let ahead = goes_ahead g.S.Stage g.F.Flash u.me u.heard (heard_on c.args.pid c.args.section.now) c.args.self.now c.hear.new.self c.args.flash.now c.current.result.software
+    change.Same c.hear.result u.collects
+    (ap (λ (r : Record). r.software) c.current.ensures.value) c.hear.ensures.stands c.hear.ensures.change c.in-Same.is in
+    record {
+      right = c.requires.right;
+      usable = record { me = u.me; item = heard_on c.args.pid c.args.section.now; heard = u.heard; ahead = ahead };
+    }
+
+pub returns-in-Lost-clause-collects : goal.returns-in-Lost-clause-collects
+returns-in-Lost-clause-collects g c = λ me heard collects.
+    let item = heard_on c.args.pid c.args.section.now in
+    let self = c.args.self.now in
+    let ahead = goes_ahead g.S.Stage g.F.Flash me heard (heard_on c.args.pid c.args.section.now) c.args.self.now c.hear.new.self c.args.flash.now c.current.result.software
+    change.Lost c.hear.result collects
+    (ap (λ (r : Record). r.software) c.current.ensures.value) c.hear.ensures.stands c.hear.ensures.change c.in-Lost.is in
+    none_collects g.S.Stage g.F.Flash me item heard (record { bank = self.bank; stage = self.stage; route = c.hear.new.self; choices = self.choices }) c.args.flash.now ahead.stands
+    (λ chosen. let both : change.Lost ≡ change.Chosen = sym ahead.changes ∙ chosen in absurd cc) (lost_none me item heard ahead.changes) ahead.gathers
+
+pub returns-in-Lost-clause-goes_on : goal.returns-in-Lost-clause-goes_on
+returns-in-Lost-clause-goes_on g c = λ tells me heard collects.
+    leaves_same c.args.self.now.bank (g.F.Flash.contents c.args.flash.now) (collects.gathers.lent.fits tells).sound
+
+pub returns-in-Lost-clause-left : goal.returns-in-Lost-clause-left
+returns-in-Lost-clause-left g c = λ tells me heard collects.
+    let f = g.F.Flash in
+    let x = f.contents c.args.flash.now in
+    left_now f g.met.F.Flash.only_now c.args.flash.now (SectionsLeave me (heard_on c.args.pid c.args.section.now ∷ heard) c.args.self.now.bank x)
+    (inl (leaves_same c.args.self.now.bank x (collects.gathers.lent.fits tells).sound))
+
+pub returns-in-Chosen-clause-collects : goal.returns-in-Chosen-clause-collects
+returns-in-Chosen-clause-collects g c = λ me heard collects.
+    let ahead = goes_ahead g.S.Stage g.F.Flash me heard (heard_on c.args.pid c.args.section.now) c.args.self.now c.hear.new.self c.args.flash.now c.current.result.software
+    change.Chosen c.hear.result collects
+    (ap (λ (r : Record). r.software) c.current.ensures.value) c.hear.ensures.stands c.hear.ensures.change c.in-Chosen.is in
+    c.begin.ensures.collects me (heard_on c.args.pid c.args.section.now) heard ahead
+
+pub returns-in-Chosen-clause-goes_on : goal.returns-in-Chosen-clause-goes_on
+returns-in-Chosen-clause-goes_on g c = λ tells me heard collects.
+    let ahead = goes_ahead g.S.Stage g.F.Flash me heard (heard_on c.args.pid c.args.section.now) c.args.self.now c.hear.new.self c.args.flash.now c.current.result.software
+    change.Chosen c.hear.result collects
+    (ap (λ (r : Record). r.software) c.current.ensures.value) c.hear.ensures.stands c.hear.ensures.change c.in-Chosen.is in
+    c.begin.ensures.goes_on tells me (heard_on c.args.pid c.args.section.now) heard ahead
+
+pub returns-in-Chosen-clause-held : goal.returns-in-Chosen-clause-held
+returns-in-Chosen-clause-held g c = λ tells me heard collects.
+    let ahead = goes_ahead g.S.Stage g.F.Flash me heard (heard_on c.args.pid c.args.section.now) c.args.self.now c.hear.new.self c.args.flash.now c.current.result.software
+    change.Chosen c.hear.result collects
+    (ap (λ (r : Record). r.software) c.current.ensures.value) c.hear.ensures.stands c.hear.ensures.change c.in-Chosen.is in
+    c.begin.ensures.held tells me (heard_on c.args.pid c.args.section.now) heard ahead
+
+pub returns-in-Chosen-clause-left : goal.returns-in-Chosen-clause-left
+returns-in-Chosen-clause-left g c = λ tells me heard collects.
+    let ahead = goes_ahead g.S.Stage g.F.Flash me heard (heard_on c.args.pid c.args.section.now) c.args.self.now c.hear.new.self c.args.flash.now c.current.result.software
+    change.Chosen c.hear.result collects
+    (ap (λ (r : Record). r.software) c.current.ensures.value) c.hear.ensures.stands c.hear.ensures.change c.in-Chosen.is in
+    c.begin.ensures.left tells me (heard_on c.args.pid c.args.section.now) heard ahead
+
+pub returns-in-Same-clause-collects : goal.returns-in-Same-clause-collects
+returns-in-Same-clause-collects g c = λ me heard collects.
+    let ahead = goes_ahead g.S.Stage g.F.Flash me heard (heard_on c.args.pid c.args.section.now) c.args.self.now c.hear.new.self c.args.flash.now c.current.result.software
+    change.Same c.hear.result collects
+    (ap (λ (r : Record). r.software) c.current.ensures.value) c.hear.ensures.stands c.hear.ensures.change c.in-Same.is in
+    c.take.ensures.collects me heard ahead
+
+pub returns-in-Same-clause-goes_on : goal.returns-in-Same-clause-goes_on
+returns-in-Same-clause-goes_on g c = λ tells me heard collects.
+    let ahead = goes_ahead g.S.Stage g.F.Flash me heard (heard_on c.args.pid c.args.section.now) c.args.self.now c.hear.new.self c.args.flash.now c.current.result.software
+    change.Same c.hear.result collects
+    (ap (λ (r : Record). r.software) c.current.ensures.value) c.hear.ensures.stands c.hear.ensures.change c.in-Same.is in
+    c.take.ensures.goes_on tells me heard ahead
+
+pub returns-in-Same-clause-held : goal.returns-in-Same-clause-held
+returns-in-Same-clause-held g c = λ tells me heard collects.
+    let ahead = goes_ahead g.S.Stage g.F.Flash me heard (heard_on c.args.pid c.args.section.now) c.args.self.now c.hear.new.self c.args.flash.now c.current.result.software
+    change.Same c.hear.result collects
+    (ap (λ (r : Record). r.software) c.current.ensures.value) c.hear.ensures.stands c.hear.ensures.change c.in-Same.is in
+    c.take.ensures.held tells me heard ahead
+
+pub returns-in-Same-clause-left : goal.returns-in-Same-clause-left
+returns-in-Same-clause-left g c = λ tells me heard collects.
+    let ahead = goes_ahead g.S.Stage g.F.Flash me heard (heard_on c.args.pid c.args.section.now) c.args.self.now c.hear.new.self c.args.flash.now c.current.result.software
+    change.Same c.hear.result collects
+    (ap (λ (r : Record). r.software) c.current.ensures.value) c.hear.ensures.stands c.hear.ensures.change c.in-Same.is in
+    c.take.ensures.left tells me heard ahead
+
+pub returns-in-Lost-clause-seen : goal.returns-in-Lost-clause-seen
+returns-in-Lost-clause-seen g c = λ me heard collects.
+    let item = heard_on c.args.pid c.args.section.now in
+    let self = c.args.self.now in
+    let ahead = goes_ahead g.S.Stage g.F.Flash me heard (heard_on c.args.pid c.args.section.now) c.args.self.now c.hear.new.self c.args.flash.now c.current.result.software
+    change.Lost c.hear.result collects
+    (ap (λ (r : Record). r.software) c.current.ensures.value) c.hear.ensures.stands c.hear.ensures.change c.in-Lost.is in
+    (none_collects g.S.Stage g.F.Flash me item heard (record { bank = self.bank; stage = self.stage; route = c.hear.new.self; choices = self.choices }) c.args.flash.now ahead.stands
+    (λ chosen. let both : change.Lost ≡ change.Chosen = sym ahead.changes ∙ chosen in absurd cc) (lost_none me item heard ahead.changes) ahead.gathers).gathers.knows.undecided
+
+pub returns-in-Lost-clause-too_many : goal.returns-in-Lost-clause-too_many
+returns-in-Lost-clause-too_many g c = λ me heard collects many.
+    let item = heard_on c.args.pid c.args.section.now in
+    let ahead = goes_ahead g.S.Stage g.F.Flash me heard (heard_on c.args.pid c.args.section.now) c.args.self.now c.hear.new.self c.args.flash.now c.current.result.software
+    change.Lost c.hear.result collects
+    (ap (λ (r : Record). r.software) c.current.ensures.value) c.hear.ensures.stands c.hear.ensures.change c.in-Lost.is in
+    let not = not_too_many me item heard (λ chosen. let both : change.Lost ≡ change.Chosen = sym ahead.changes ∙ chosen in absurd cc) in
+    absurd cc
+
+pub returns-in-Chosen-clause-seen : goal.returns-in-Chosen-clause-seen
+returns-in-Chosen-clause-seen g c = λ me heard collects.
+    let ahead = goes_ahead g.S.Stage g.F.Flash me heard (heard_on c.args.pid c.args.section.now) c.args.self.now c.hear.new.self c.args.flash.now c.current.result.software
+    change.Chosen c.hear.result collects
+    (ap (λ (r : Record). r.software) c.current.ensures.value) c.hear.ensures.stands c.hear.ensures.change c.in-Chosen.is in
+    c.begin.ensures.seen me (heard_on c.args.pid c.args.section.now) heard ahead
+
+pub returns-in-Chosen-clause-too_many : goal.returns-in-Chosen-clause-too_many
+returns-in-Chosen-clause-too_many g c = λ me heard collects many.
+    let ahead = goes_ahead g.S.Stage g.F.Flash me heard (heard_on c.args.pid c.args.section.now) c.args.self.now c.hear.new.self c.args.flash.now c.current.result.software
+    change.Chosen c.hear.result collects
+    (ap (λ (r : Record). r.software) c.current.ensures.value) c.hear.ensures.stands c.hear.ensures.change c.in-Chosen.is in
+    c.begin.ensures.too_many me (heard_on c.args.pid c.args.section.now) heard ahead many
+
+pub returns-in-Chosen-clause-untouched : goal.returns-in-Chosen-clause-untouched
+returns-in-Chosen-clause-untouched g c = λ me heard collects none.
+    let item = heard_on c.args.pid c.args.section.now in
+    let ahead = goes_ahead g.S.Stage g.F.Flash me heard (heard_on c.args.pid c.args.section.now) c.args.self.now c.hear.new.self c.args.flash.now c.current.result.software
+    change.Chosen c.hear.result collects
+    (ap (λ (r : Record). r.software) c.current.ensures.value) c.hear.ensures.stands c.hear.ensures.change c.in-Chosen.is in
+    let more = one_more_begins me item heard ahead.changes in
+    absurd (omega (arith, more, none))
+
+pub returns-in-Same-clause-seen : goal.returns-in-Same-clause-seen
+returns-in-Same-clause-seen g c = λ me heard collects.
+    let ahead = goes_ahead g.S.Stage g.F.Flash me heard (heard_on c.args.pid c.args.section.now) c.args.self.now c.hear.new.self c.args.flash.now c.current.result.software
+    change.Same c.hear.result collects
+    (ap (λ (r : Record). r.software) c.current.ensures.value) c.hear.ensures.stands c.hear.ensures.change c.in-Same.is in
+    c.take.ensures.seen me heard ahead
+
+pub returns-in-Same-clause-too_many : goal.returns-in-Same-clause-too_many
+returns-in-Same-clause-too_many g c = λ me heard collects many.
+    let item = heard_on c.args.pid c.args.section.now in
+    let ahead = goes_ahead g.S.Stage g.F.Flash me heard (heard_on c.args.pid c.args.section.now) c.args.self.now c.hear.new.self c.args.flash.now c.current.result.software
+    change.Same c.hear.result collects
+    (ap (λ (r : Record). r.software) c.current.ensures.value) c.hear.ensures.stands c.hear.ensures.change c.in-Same.is in
+    let not = not_too_many me item heard (λ chosen. let both : change.Same ≡ change.Chosen = sym ahead.changes ∙ chosen in absurd cc) in
+    absurd cc
+
+pub returns-in-Same-clause-untouched : goal.returns-in-Same-clause-untouched
+returns-in-Same-clause-untouched g c = λ me heard collects none.
+    let ahead = goes_ahead g.S.Stage g.F.Flash me heard (heard_on c.args.pid c.args.section.now) c.args.self.now c.hear.new.self c.args.flash.now c.current.result.software
+    change.Same c.hear.result collects
+    (ap (λ (r : Record). r.software) c.current.ensures.value) c.hear.ensures.stands c.hear.ensures.change c.in-Same.is in
+    c.take.ensures.untouched me heard ahead none

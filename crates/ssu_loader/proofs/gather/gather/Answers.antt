@@ -1,0 +1,99 @@
+use Rattle.std.proofs.Common.{ℕ, List, ◌∷◌, inl, sym, subst}
+use Rattle.flash_bank.specs.declared.bank.Bank.{Bank}
+use Rattle.flash_dev.proofs.Moments.{joined, weaker}
+use Rattle.flash_stage.specs.Leaving.{StageLeaves}
+use Rattle.ssu_loader.specs.Collecting.{HasFilled, HoldsFilling}
+use Rattle.ssu_loader.specs.Settling.{SettlingLeaves}
+use Rattle.ssu_loader.proofs.AnsweringLaws.{both_if_ok, if_ok, none_one, none_two}
+use Rattle.ssu_loader.proofs.SettlingLaws.{answer_moved, settles_joined, settling_joined, settling_moved}
+use Rattle.ssu_loader.proofs.gather.gather.Goals as goal
+
+pub returns-clause-filled : goal.returns-clause-filled
+returns-clause-filled g c = λ window filled.
+    let s = g.S.Stage in
+    let plan = c.args.choice.now.plan in
+    let more = c.args.section.now ∷ window in
+    let taken = c.in_ok-take_block.ensures.filled window filled in
+    both_if_ok _ _ _ c.settle.result (λ answer. none_two answer _ _ _ (λ same some.
+    (subst (λ (stage : g.row.S.Denot). HasFilled s plan more stage) (sym same.0) taken, some)))
+    c.settle.ensures.same (c.settle.ensures.missing more taken)
+
+pub returns-clause-bytes : goal.returns-clause-bytes
+returns-clause-bytes g c = λ tells window filled holds.
+    let s = g.S.Stage in
+    let f = g.F.Flash in
+    let t = c.take_block.new in
+    let plan = c.args.choice.now.plan in
+    let more = c.args.section.now ∷ window in
+    let taken = c.in_ok-take_block.ensures.bytes tells window filled holds in
+    if_ok _ _ c.settle.result (λ answer. none_one answer _ _ (λ same.
+    subst (λ (stage : g.row.S.Denot). HoldsFilling s plan more stage c.settle.new.bank (f.contents c.settle.new.flash)) (sym same.0)
+    (subst (λ (bank : Bank). HoldsFilling s plan more t.stage bank (f.contents c.settle.new.flash)) (sym same.1)
+    (subst (λ (flash : g.row.F.Denot). HoldsFilling s plan more t.stage t.bank (f.contents flash)) (sym same.2) taken))))
+    c.settle.ensures.same
+
+pub returns-clause-settled : goal.returns-clause-settled
+returns-clause-settled g c = λ tells window filled holds.
+    let f = g.F.Flash in
+    let t = c.take_block.new in
+    let bank = c.args.bank.now in
+    let choice = c.args.choice.now in
+    let more = c.args.section.now ∷ window in
+    let x = f.contents c.args.flash.now in
+    let y = f.contents t.flash in
+    let z = f.contents c.settle.new.flash in
+    if_ok _ _ c.settle.result (λ answer settles.
+    settles_joined choice more bank x y z answer (c.requires.works.lent.fits tells) (c.in_ok-take_block.ensures.held tells)
+    (answer_moved choice more bank t.bank y z answer c.in_ok-take_block.ensures.same_bank settles))
+    (c.settle.ensures.settled tells more (c.in_ok-take_block.ensures.filled window filled) (c.in_ok-take_block.ensures.bytes tells window filled holds))
+
+pub returns-clause-held : goal.returns-clause-held
+returns-clause-held g c = λ tells window filled holds.
+    let f = g.F.Flash in
+    let t = c.take_block.new in
+    let bank = c.args.bank.now in
+    let choice = c.args.choice.now in
+    let more = c.args.section.now ∷ window in
+    let x = f.contents c.args.flash.now in
+    let y = f.contents t.flash in
+    let z = f.contents c.settle.new.flash in
+    settling_joined choice more bank x y z (c.requires.works.lent.fits tells) (c.in_ok-take_block.ensures.held tells)
+    (settling_moved choice more bank t.bank y z c.in_ok-take_block.ensures.same_bank
+    (c.settle.ensures.held tells more (c.in_ok-take_block.ensures.filled window filled) (c.in_ok-take_block.ensures.bytes tells window filled holds)))
+
+pub returns-clause-left : goal.returns-clause-left
+returns-clause-left g c = λ tells window filled holds.
+    let f = g.F.Flash in
+    let t = c.take_block.new in
+    let bank = c.args.bank.now in
+    let choice = c.args.choice.now in
+    let more = c.args.section.now ∷ window in
+    let x = f.contents c.args.flash.now in
+    let y = f.contents t.flash in
+    let P : List ℕ → Type 0 = SettlingLeaves choice more bank x in
+    joined f.moment f.left_since c.args.flash.now t.flash c.settle.new.flash P
+    (weaker f.moment f.left_since c.args.flash.now t.flash (StageLeaves bank x) P (λ z leaves. inl leaves) (c.in_ok-take_block.ensures.left tells))
+    (weaker f.moment f.left_since t.flash c.settle.new.flash (SettlingLeaves choice more t.bank y) P
+    (λ z leaves. settling_joined choice more bank x y z (c.requires.works.lent.fits tells) (c.in_ok-take_block.ensures.held tells)
+    (settling_moved choice more bank t.bank y z c.in_ok-take_block.ensures.same_bank leaves))
+    (c.settle.ensures.left tells more (c.in_ok-take_block.ensures.filled window filled) (c.in_ok-take_block.ensures.bytes tells window filled holds)))
+
+pub returns-clause-whole : goal.returns-clause-whole
+returns-clause-whole g c = λ window filled. c.settle.ensures.whole (c.args.section.now ∷ window) (c.in_ok-take_block.ensures.filled window filled)
+
+pub returns-in_err-take_block-clause-left : goal.returns-in_err-take_block-clause-left
+returns-in_err-take_block-clause-left g c = λ tells window filled holds.
+    let f = g.F.Flash in
+    let bank = c.args.bank.now in
+    let x = f.contents c.args.flash.now in
+    weaker f.moment f.left_since c.args.flash.now c.take_block.new.flash (StageLeaves bank x) (SettlingLeaves c.args.choice.now (c.args.section.now ∷ window) bank x)
+    (λ z leaves. inl leaves) (c.in_err-take_block.ensures.left tells)
+
+pub returns-clause-kept : goal.returns-clause-kept
+returns-clause-kept g c = λ tells.
+    let f = g.F.Flash in
+    let bank = c.args.bank.now in
+    let x = f.contents c.args.flash.now in
+    if_ok _ _ c.settle.result (λ answer. none_one answer _ _ (λ same.
+    subst (λ (flash : g.row.F.Denot). StageLeaves bank x (f.contents flash)) (sym same.2) (c.in_ok-take_block.ensures.held tells)))
+    c.settle.ensures.same

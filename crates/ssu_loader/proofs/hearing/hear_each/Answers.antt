@@ -1,0 +1,148 @@
+use Rattle.std.proofs.Common.{◌≡◌, ℕ, List, ◌∷◌, take, inl, subst, ap, ◌∙◌, arith}
+use Rattle.flash_dev.proofs.Moments.{weaker}
+use Rattle.flash_stage.specs.Leaving.{StageLeaves}
+use Rattle.route_tables.specs.Next.{heard_on}
+use Rattle.ssu_route.specs.Queries.{after_all}
+use Rattle.ssu_route.specs.Windows.{beginnings}
+use Rattle.ssu_loader.specs.Collecting.{Collects}
+use Rattle.ssu_loader.specs.Leaving.{SectionsLeave}
+use Rattle.ssu_loader.proofs.AnsweringLaws.{if_none_at}
+use Rattle.ssu_loader.proofs.HearingLaws.{goes_on_none, goes_on_some, heard_ends, heard_leaves, heard_left, heard_more, heard_none, heard_seen, heard_untouched, take_whole}
+use Rattle.ssu_loader.proofs.hearing.hear_each.Goals as goal
+
+pub loop-k-init : goal.loop-k-init
+loop-k-init g c = heard_none g.S.Stage g.F.Flash g.met.F.Flash.only_now c.args.pid c.args.each.now c.args.collector.now c.args.flash.now c.requires.usable
+
+pub hear-requires : goal.hear-requires
+hear-requires g c =
+    let u = c.requires.usable in
+    record {
+      right = c.get.ensures.right.1;
+      usable = record { me = u.me; heard = after_all c.args.pid (take c.loop-k.k c.args.each.now) u.heard; collects = c.loop-k.invariant.collects u.me u.heard u.collects };
+    }
+
+pub loop-k-preserved : goal.loop-k-preserved
+loop-k-preserved g c =
+    let f = g.F.Flash in
+    let x = f.contents c.loop-k.flash in
+    let y = f.contents c.hear.new.flash in
+    let section = c.get.result.now in
+    heard_more g.S.Stage g.F.Flash c.args.pid c.args.each.now c.loop-k.k c.args.collector.now c.args.flash.now c.loop-k.collector c.loop-k.flash c.hear.new.self c.hear.new.flash c.get.result.now
+    c.loop-k.invariant c.requires.usable c.get.ensures.bytes
+    (λ me heard col. if_none_at _ c.in_ok-hear.field-0 c.in-None.is (c.in_ok-hear.ensures.collects me heard col))
+    (λ tells me heard col. goes_on_none me (heard_on c.args.pid section ∷ heard) c.loop-k.collector.bank x y c.in_ok-hear.field-0 c.in-None.is (c.in_ok-hear.ensures.goes_on tells me heard col))
+    (λ tells me heard col. c.hear.ensures.left tells me heard col) c.hear.ensures.untouched
+    (if_none_at _ c.in_ok-hear.field-0 c.in-None.is c.in_ok-hear.ensures.same_bank) c.in_ok-hear.ensures.lent c.hear.ensures.blocks c.hear.ensures.block_size c.hear.ensures.cause.later
+
+pub returns-in_err-hear-clause-held : goal.returns-in_err-hear-clause-held
+returns-in_err-hear-clause-held g c = λ tells me heard col.
+    heard_leaves g.S.Stage g.F.Flash c.args.pid c.args.each.now c.loop-k.k c.args.collector.now c.args.flash.now c.loop-k.collector c.loop-k.flash c.hear.new.self c.hear.new.flash c.get.result.now
+    c.loop-k.invariant c.requires.usable c.get.ensures.bytes tells me heard (g.F.Flash.contents c.hear.new.flash)
+    (c.hear.ensures.held tells me (after_all c.args.pid (take c.loop-k.k c.args.each.now) heard) (c.loop-k.invariant.collects me heard col))
+
+pub returns-in_err-hear-clause-left : goal.returns-in_err-hear-clause-left
+returns-in_err-hear-clause-left g c = λ tells me heard col.
+    heard_left g.S.Stage g.F.Flash c.args.pid c.args.each.now c.loop-k.k c.args.collector.now c.args.flash.now c.loop-k.collector c.loop-k.flash c.hear.new.self c.hear.new.flash c.get.result.now
+    c.loop-k.invariant c.requires.usable c.get.ensures.bytes tells me heard
+    (c.hear.ensures.left tells me (after_all c.args.pid (take c.loop-k.k c.args.each.now) heard) (c.loop-k.invariant.collects me heard col))
+
+pub returns-in_err-hear-clause-blocks : goal.returns-in_err-hear-clause-blocks
+returns-in_err-hear-clause-blocks g c = c.hear.ensures.blocks ∙ c.loop-k.invariant.blocks
+
+pub returns-in_err-hear-clause-block_size : goal.returns-in_err-hear-clause-block_size
+returns-in_err-hear-clause-block_size g c = c.hear.ensures.block_size ∙ c.loop-k.invariant.block_size
+
+pub returns-in-Some-clause-held : goal.returns-in-Some-clause-held
+returns-in-Some-clause-held g c = λ tells me heard col.
+    heard_leaves g.S.Stage g.F.Flash c.args.pid c.args.each.now c.loop-k.k c.args.collector.now c.args.flash.now c.loop-k.collector c.loop-k.flash c.hear.new.self c.hear.new.flash c.get.result.now
+    c.loop-k.invariant c.requires.usable c.get.ensures.bytes tells me heard (g.F.Flash.contents c.hear.new.flash)
+    (c.hear.ensures.held tells me (after_all c.args.pid (take c.loop-k.k c.args.each.now) heard) (c.loop-k.invariant.collects me heard col))
+
+pub returns-in-Some-clause-left : goal.returns-in-Some-clause-left
+returns-in-Some-clause-left g c = λ tells me heard col.
+    heard_left g.S.Stage g.F.Flash c.args.pid c.args.each.now c.loop-k.k c.args.collector.now c.args.flash.now c.loop-k.collector c.loop-k.flash c.hear.new.self c.hear.new.flash c.get.result.now
+    c.loop-k.invariant c.requires.usable c.get.ensures.bytes tells me heard
+    (c.hear.ensures.left tells me (after_all c.args.pid (take c.loop-k.k c.args.each.now) heard) (c.loop-k.invariant.collects me heard col))
+
+pub returns-in-Some-clause-blocks : goal.returns-in-Some-clause-blocks
+returns-in-Some-clause-blocks g c = c.hear.ensures.blocks ∙ c.loop-k.invariant.blocks
+
+pub returns-in-Some-clause-block_size : goal.returns-in-Some-clause-block_size
+returns-in-Some-clause-block_size g c = c.hear.ensures.block_size ∙ c.loop-k.invariant.block_size
+
+pub returns-in-Some-clause-goes_on : goal.returns-in-Some-clause-goes_on
+returns-in-Some-clause-goes_on g c = λ tells me heard col.
+    let f = g.F.Flash in
+    let earlier = after_all c.args.pid (take c.loop-k.k c.args.each.now) heard in
+    heard_ends g.S.Stage g.F.Flash c.args.pid c.args.each.now c.loop-k.k c.args.collector.now c.args.flash.now c.loop-k.collector c.loop-k.flash c.hear.new.self c.hear.new.flash c.get.result.now
+    c.loop-k.invariant c.requires.usable c.get.ensures.bytes tells me heard (f.contents c.hear.new.flash) c.in-Some.verdict
+    (goes_on_some me (heard_on c.args.pid c.get.result.now ∷ earlier) c.loop-k.collector.bank (f.contents c.loop-k.flash) (f.contents c.hear.new.flash) c.in_ok-hear.field-0 c.in-Some.verdict c.in-Some.is
+    (c.in_ok-hear.ensures.goes_on tells me earlier (c.loop-k.invariant.collects me heard col)))
+
+pub returns-clause-collects : goal.returns-clause-collects
+returns-clause-collects g c = λ me heard col.
+    let all : take c.loop-k.k c.args.each.now ≡ c.args.each.now = take_whole c.args.each.now c.loop-k.k (omega (arith, c.loop-k-test.false, c.len-k-end.ensures)) in
+    subst (λ (sections : List (List ℕ)). Collects g.S.Stage g.F.Flash me (after_all c.args.pid sections heard) c.loop-k.collector c.loop-k.flash) all (c.loop-k.invariant.collects me heard col)
+
+pub returns-clause-goes_on : goal.returns-clause-goes_on
+returns-clause-goes_on g c = λ tells me heard col. c.loop-k.invariant.leaves tells
+
+pub returns-clause-held : goal.returns-clause-held
+returns-clause-held g c = λ tells me heard col. inl (c.loop-k.invariant.leaves tells)
+
+pub returns-clause-left : goal.returns-clause-left
+returns-clause-left g c = λ tells me heard col.
+    let f = g.F.Flash in
+    let bank = c.args.collector.now.bank in
+    let x = f.contents c.args.flash.now in
+    weaker f.moment f.left_since c.args.flash.now c.loop-k.flash (StageLeaves bank x) (SectionsLeave me (after_all c.args.pid c.args.each.now heard) bank x) (λ y is. inl is) (c.loop-k.invariant.left tells)
+
+pub returns-clause-same_bank : goal.returns-clause-same_bank
+returns-clause-same_bank g c = c.loop-k.invariant.bank
+
+pub returns-clause-blocks : goal.returns-clause-blocks
+returns-clause-blocks g c = c.loop-k.invariant.blocks
+
+pub returns-clause-block_size : goal.returns-clause-block_size
+returns-clause-block_size g c = c.loop-k.invariant.block_size
+
+pub returns-in-Some-clause-seen : goal.returns-in-Some-clause-seen
+returns-in-Some-clause-seen g c = λ me heard col.
+    heard_seen g.S.Stage g.F.Flash c.args.pid c.args.each.now c.loop-k.k c.args.collector.now c.args.flash.now c.loop-k.collector c.loop-k.flash c.hear.new.self c.hear.new.flash c.get.result.now
+    c.loop-k.invariant c.requires.usable c.get.ensures.bytes me heard c.in_ok-hear.field-0 c.in-Some.verdict c.in-Some.is
+    (c.in_ok-hear.ensures.seen me (after_all c.args.pid (take c.loop-k.k c.args.each.now) heard) (c.loop-k.invariant.collects me heard col))
+
+pub returns-clause-seen : goal.returns-clause-seen
+returns-clause-seen g c = λ me heard col.
+    let all : take c.loop-k.k c.args.each.now ≡ c.args.each.now = take_whole c.args.each.now c.loop-k.k (omega (arith, c.loop-k-test.false, c.len-k-end.ensures)) in
+    (subst (λ (sections : List (List ℕ)). Collects g.S.Stage g.F.Flash me (after_all c.args.pid sections heard) c.loop-k.collector c.loop-k.flash) all (c.loop-k.invariant.collects me heard col)).gathers.knows.undecided
+
+pub returns-in_err-hear-clause-untouched : goal.returns-in_err-hear-clause-untouched
+returns-in_err-hear-clause-untouched g c =
+    heard_untouched g.S.Stage g.F.Flash c.args.pid c.args.each.now c.loop-k.k c.args.collector.now c.args.flash.now c.loop-k.collector c.loop-k.flash c.hear.new.self c.hear.new.flash c.get.result.now
+    c.loop-k.invariant c.requires.usable c.get.ensures.bytes c.hear.ensures.untouched
+
+pub returns-in-Some-clause-untouched : goal.returns-in-Some-clause-untouched
+returns-in-Some-clause-untouched g c =
+    heard_untouched g.S.Stage g.F.Flash c.args.pid c.args.each.now c.loop-k.k c.args.collector.now c.args.flash.now c.loop-k.collector c.loop-k.flash c.hear.new.self c.hear.new.flash c.get.result.now
+    c.loop-k.invariant c.requires.usable c.get.ensures.bytes c.hear.ensures.untouched
+
+pub returns-clause-untouched : goal.returns-clause-untouched
+returns-clause-untouched g c = λ me heard col none.
+    let all : take c.loop-k.k c.args.each.now ≡ c.args.each.now = take_whole c.args.each.now c.loop-k.k (omega (arith, c.loop-k-test.false, c.len-k-end.ensures)) in
+    c.loop-k.invariant.untouched me heard col (ap (λ (sections : List (List ℕ)). beginnings me (after_all c.args.pid sections heard)) all ∙ none)
+
+pub returns-in_err-hear-clause-geometry : goal.returns-in_err-hear-clause-geometry
+returns-in_err-hear-clause-geometry g c = c.hear.ensures.geometry ∙ c.loop-k.invariant.bank.geometry
+
+pub returns-in-Some-clause-lent : goal.returns-in-Some-clause-lent
+returns-in-Some-clause-lent g c = c.in_ok-hear.ensures.lent
+
+pub returns-in-Some-clause-geometry : goal.returns-in-Some-clause-geometry
+returns-in-Some-clause-geometry g c = c.hear.ensures.geometry ∙ c.loop-k.invariant.bank.geometry
+
+pub returns-clause-lent : goal.returns-clause-lent
+returns-clause-lent g c = c.loop-k.invariant.lent
+
+pub returns-clause-geometry : goal.returns-clause-geometry
+returns-clause-geometry g c = c.loop-k.invariant.bank.geometry

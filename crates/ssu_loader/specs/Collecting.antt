@@ -1,0 +1,83 @@
+-- What the collector of a group stands for: the sections that the box heard, the newest first. What is staged is seen by the
+-- words of the stage, and what the flash holds by those of the flash.
+use Rattle.std.specs.Prelude.{◌≡◌, ℕ, ◌<◌, ◌≤◌, List, ◌∷◌, Some, is_some}
+use Rattle.flash_dev.specs.declared.device.Flash.{Ghosts as FlashGhosts}
+use Rattle.flash_bank.specs.Bank.{IsLent, current_of, geometry_of}
+use Rattle.flash_bank.specs.Layout.{bank_len}
+use Rattle.flash_bank.specs.declared.bank.Bank.{Bank}
+use Rattle.flash_stage.specs.declared.stage.Stage.{Ghosts as StageGhosts}
+use Rattle.flash_stage.specs.Outline.{outline_of}
+use Rattle.ts_section.specs.Events.{Heard}
+use Rattle.ssu_group.specs.declared.group_plan.GroupPlan.{GroupPlan}
+use Rattle.ssu_group.specs.Carried.{filling}
+use Rattle.route_tables.specs.Values.{Receiver}
+use Rattle.ssu_route.specs.declared.change.Change.{Change}
+use Rattle.ssu_route.specs.declared.choice.Choice.{Choice}
+use Rattle.ssu_route.specs.Route.{Stands}
+use Rattle.ssu_route.specs.Windows.{IsChoice, beginnings, change_at, window}
+use Rattle.ssu_loader.specs.declared.collector.Collector.{Collector}
+use Rattle.ssu_loader.specs.Decisions.{IsOpen}
+
+-- ---- the stage
+
+-- The stage has begun the group of this plan with this bank and flash, and may go on.
+pub record Works {S F : Type 0} (s : StageGhosts S) (f : FlashGhosts F) (plan : GroupPlan) (stage : S) (bank : Bank) (flash : F) : Type 0 where
+  pub lent : IsLent f.tells f.contents f.block_count f.block_len bank flash
+  pub ready : s.ready stage bank
+  pub agrees : f.tells → s.agrees stage bank (f.contents flash)
+  pub planned : s.plan_of stage ≡ outline_of plan
+  pub next_fits : (current_of bank).number < 4294967295
+
+-- The places that are staged are those that the sections fill.
+abbrev pub HasFilled : {S : Type 0} → StageGhosts S → GroupPlan → List (List ℕ) → S → Type 0
+HasFilled s plan window stage = (n : ℕ) → n < plan.places → s.has stage n ≡ is_some (filling plan window n)
+
+-- For each of them stand the bytes of the first block that fills it.
+abbrev pub HoldsFilling : {S : Type 0} → StageGhosts S → GroupPlan → List (List ℕ) → S → Bank → List ℕ → Type 0
+HoldsFilling s plan window stage bank contents =
+    (n : ℕ) (bytes : List ℕ) → n < plan.places → filling plan window n ≡ Some bytes → s.bytes_at stage bank contents n ≡ bytes
+
+-- ---- the collector
+
+-- Nothing is decided by these sections, and the places that are staged are those that the window of the choice fills.
+pub record Knows {S : Type 0} (s : StageGhosts S) (me : Receiver) (heard : List Heard) (c : Collector S) : Type 0 where
+  pub undecided : IsOpen me heard
+  pub counted : c.choices ≡ beginnings me heard
+  pub few : c.choices ≤ 16
+  pub planned : (choice : Choice) → IsChoice me heard choice → s.plan_of c.stage ≡ outline_of choice.plan
+  pub filled : (choice : Choice) → IsChoice me heard choice → HasFilled s choice.plan (window me heard) c.stage
+
+-- Bank and stage may go on with this flash. Nothing is decided by these sections, and the places that are staged are those that
+-- the window of the choice fills; where contents are told, each has the bytes of the first block that fills it.
+pub record Gathers {S F : Type 0} (s : StageGhosts S) (f : FlashGhosts F) (me : Receiver) (heard : List Heard) (c : Collector S) (flash : F) : Type 0 where
+  pub len : me.bank_len ≡ bank_len (geometry_of c.bank)
+  pub runs : me.running ≡ (current_of c.bank).software
+  pub lent : IsLent f.tells f.contents f.block_count f.block_len c.bank flash
+  pub made_for : s.most c.stage ≡ bank_len (geometry_of c.bank)
+  pub next_fits : (current_of c.bank).number < 4294967295
+  pub knows : Knows s me heard c
+  pub works : (choice : Choice) → IsChoice me heard choice → Works s f choice.plan c.stage c.bank flash
+  pub told : f.tells → (choice : Choice) → IsChoice me heard choice → HoldsFilling s choice.plan (window me heard) c.stage c.bank (f.contents flash)
+
+-- The route stands for these sections too.
+pub record Collects {S F : Type 0} (s : StageGhosts S) (f : FlashGhosts F) (me : Receiver) (heard : List Heard) (c : Collector S) (flash : F) : Type 0 where
+  pub stands : Stands me heard c.route
+  pub gathers : Gathers s f me heard c flash
+
+-- The route has heard one section more, at which this changed.
+pub record IsAhead {S F : Type 0} (s : StageGhosts S) (f : FlashGhosts F) (me : Receiver) (item : Heard) (heard : List Heard) (change : Change) (c : Collector S) (flash : F) : Type 0 where
+  pub stands : Stands me (item ∷ heard) c.route
+  pub changes : change_at me item heard ≡ change
+  pub gathers : Gathers s f me heard c flash
+
+-- It stands for the sections of some box.
+pub record IsUsable {S F : Type 0} (s : StageGhosts S) (f : FlashGhosts F) (c : Collector S) (flash : F) : Type 0 where
+  pub me : Receiver
+  pub heard : List Heard
+  pub collects : Collects s f me heard c flash
+
+pub record IsUsableAt {S F : Type 0} (s : StageGhosts S) (f : FlashGhosts F) (change : Change) (c : Collector S) (flash : F) : Type 0 where
+  pub me : Receiver
+  pub item : Heard
+  pub heard : List Heard
+  pub ahead : IsAhead s f me item heard change c flash

@@ -1,0 +1,59 @@
+//! The blocks of a group that was chosen.
+
+ghost use Rattle.std.specs.Prelude.{◌≡◌, ◌∷◌, List, OnOk, ℕ};
+ghost use Rattle.std.specs.Option.{option_map};
+ghost use Rattle.dsmcc_msg.specs.Block.{ddb};
+ghost use Rattle.dsmcc_msg.specs.View.{ddb_view};
+ghost use Rattle.section_form.specs.Section.{IsRight};
+ghost use Rattle.flash_dev.specs.Moments.{LeavesOnly};
+ghost use Rattle.flash_stage.specs.Leaving.{SameBank, StageLeaves};
+ghost use Rattle.ssu_io.specs.Faults.{HasCause};
+ghost use Rattle.ssu_loader.specs.Collecting.{HasFilled, HoldsFilling, Works};
+
+use dsmcc_msg::Ddb;
+use flash_bank::{Bank, FlashFault};
+use flash_dev::Flash;
+use flash_stage::Stage;
+use ssu_group::GroupPlan;
+
+/// The DDB that the section is.
+fn ddb_of(section: &[u8]) -> Option<Ddb<'_>>
+    requires right { IsRight section.now }
+    ensures { option_map ddb_view result ≡ ddb.of section.now }
+{
+    Ddb::read_right(section)
+}
+
+/// Takes the block that the section is, where it fills a place of the plan.
+pub(crate) fn take_block<S: Stage, F: Flash>(
+    stage: &mut S,
+    bank: &mut Bank,
+    flash: &mut F,
+    plan: &GroupPlan,
+    section: &[u8],
+) -> Result<(), FlashFault>
+    requires right { IsRight section.now }
+    requires works { Works S.Stage F.Flash plan.now stage.old bank.old flash.old }
+    ensures works { OnOk result (Works S.Stage F.Flash plan.now stage.new bank.new flash.new) }
+    ensures filled { OnOk result ((window : List (List ℕ)) → HasFilled S.Stage plan.now window stage.old
+        → HasFilled S.Stage plan.now (section.now ∷ window) stage.new) }
+    ensures bytes { F.tells → OnOk result ((window : List (List ℕ)) → HasFilled S.Stage plan.now window stage.old
+        → HoldsFilling S.Stage plan.now window stage.old bank.old (F.contents flash.old)
+        → HoldsFilling S.Stage plan.now (section.now ∷ window) stage.new bank.new (F.contents flash.new)) }
+    ensures held { F.tells → StageLeaves bank.old (F.contents flash.old) (F.contents flash.new) }
+    ensures left { F.tells → LeavesOnly F.moment F.left_since flash.old flash.new
+        (StageLeaves bank.old (F.contents flash.old)) }
+    ensures same_bank { SameBank bank.old bank.new }
+    ensures most { S.most stage.new ≡ S.most stage.old }
+    ensures blocks { F.block_count flash.new ≡ F.block_count flash.old }
+    ensures block_size { F.block_len flash.new ≡ F.block_len flash.old }
+    ensures cause { HasCause (F.faults flash.old) (F.faults flash.new) result }
+{
+    let Some(ddb) = ddb_of(section) else {
+        return Ok(());
+    };
+    let Some(place) = plan.place(&ddb) else {
+        return Ok(());
+    };
+    stage.offer(bank, flash, place, ddb.bytes)
+}

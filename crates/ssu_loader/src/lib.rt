@@ -1,0 +1,26 @@
+//! The loader of a set-top box: it replays a transport stream, follows the way to an update, collects the group and installs
+//! it, so that boot takes the old image or the new one whatever happens. ETSI TS 102 006; ETSI EN 301 192, 8.1.
+#![tactic(auto)]
+
+mod blocks;
+mod collector;
+mod fault;
+mod gather;
+mod hearing;
+#[cfg(test)]
+mod install_tests;
+mod laws;
+mod loader;
+#[cfg(test)]
+mod replay_tests;
+mod replaying;
+mod settle;
+mod verdict;
+mod wrong;
+
+pub use fault::LoadFault;
+pub use laws::{decisions_are_one, packets_go_on};
+pub use loader::Loader;
+pub use replaying::replay;
+pub use ssu_answer::{Chosen, Level};
+pub use verdict::Verdict;

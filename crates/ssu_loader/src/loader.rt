@@ -1,0 +1,152 @@
+//! The loader, packet by packet.
+
+ghost use Rattle.std.specs.Prelude.{◌≡◌, ◌↔◌, ◌≤◌, ◌∷◌, [], ℕ, List, IfErr, IfNone, IfOk, IsErrOf, Ok, OnOk, Some};
+ghost use Rattle.flash_dev.specs.Moments.{LeavesOnly};
+ghost use Rattle.flash_bank.specs.Bank.{IsLent, geometry_of};
+ghost use Rattle.flash_bank.specs.Layout.{IsInLimits};
+ghost use Rattle.flash_bank.specs.Runs.{OnlyReads};
+ghost use Rattle.flash_bank.specs.Sound.{IsSound, IsWorn};
+ghost use Rattle.flash_stage.specs.Leaving.{SameBank};
+ghost use Rattle.ssu_io.specs.Faults.{HasCause, Rose};
+ghost use Rattle.route_tables.specs.Values.{Receiver};
+ghost use Rattle.ssu_route.specs.Queries.{heard_by};
+ghost use Rattle.ssu_answer.specs.declared.chosen.Chosen.{Chosen};
+ghost use Rattle.ssu_loader.specs.Decisions.{Reaches, Whole};
+ghost use Rattle.ssu_loader.specs.declared.fault.LoadFault.TheVariants as load_fault;
+ghost use Rattle.ssu_loader.specs.declared.verdict.Verdict.TheVariants as verdict;
+ghost use Rattle.ssu_loader.specs.Faults.{IsOfOpening, WhereInLimits, WhereNotWorn, WhereSound};
+ghost use Rattle.ssu_loader.specs.Leaving.{GoesOn, SectionsLeave};
+ghost use Rattle.ssu_loader.specs.Replays.{blocks_of};
+ghost use Rattle.ssu_route.specs.Windows.{beginnings};
+ghost use Rattle.ssu_loader.specs.Verdicts.{IsSeen, IsVerdict};
+
+use crate::collector::Collector;
+use crate::fault::LoadFault;
+use crate::hearing::{hear_each, pid_in};
+use crate::verdict::Verdict;
+use box_file::BoxFile;
+use flash_bank::{Bank, FlashFault};
+use flash_dev::Flash;
+use flash_stage::Stage;
+use ssu_route::Route;
+use std::alloc::Global;
+use ts_packet::Packet;
+use ts_section::{Hearer, SectionOut};
+
+/// A set-top box that waits for an update. It keeps no packet and no section.
+#[derive(Drop)]
+pub struct Loader<S> {
+    collector: Collector<S>,
+    hearer: Hearer,
+    each: SectionOut,
+}
+
+impl<S: Stage> Loader<S> {
+    ghost use Rattle.ssu_loader.specs.Loading.{Follows, IsFresh, IsUsable, KnowsPackets, bank_of, receiver_in};
+
+    /// The box of this file, before the first packet. All memory of a replay is taken here, and the flash is not changed.
+    pub fn open<F: Flash>(
+        alloc: Global,
+        me: &BoxFile,
+        flash: &mut F,
+    ) -> Result<Loader<S>, LoadFault>
+        ensures follows { IfOk result (λ loader. Follows S.Stage F.Flash (receiver_in me.now loader) [] loader flash.new) }
+        ensures geometry_is { IfOk result (λ loader. geometry_of (bank_of loader) ≡ blocks_of F.Flash flash.old) }
+
+        // The number or the length of the blocks is out of the limits.
+        ensures geometry { IsErrOf result LoadFault.Geometry ↔ (IsInLimits (blocks_of F.Flash flash.old) → ⊥) }
+        ensures in_limits { WhereInLimits result (IsInLimits (blocks_of F.Flash flash.old)) }
+
+        // The contents are not sound.
+        ensures foreign { F.tells → IsErrOf result LoadFault.Foreign
+            → IsSound (blocks_of F.Flash flash.old) (F.contents flash.old) → ⊥ }
+        ensures sound { F.tells → WhereSound result (IsSound (blocks_of F.Flash flash.old) (F.contents flash.old)) }
+
+        // The current record has the greatest number.
+        ensures worn { F.tells → IsErrOf result LoadFault.Worn → IsWorn (blocks_of F.Flash flash.old) (F.contents flash.old) }
+        ensures next_fits { F.tells → WhereNotWorn result (IsWorn (blocks_of F.Flash flash.old) (F.contents flash.old) → ⊥) }
+
+        ensures fault { IsErrOf result LoadFault.FlashFault → Rose (F.faults flash.old) (F.faults flash.new) }
+        ensures answer { IsOfOpening result }
+        ensures reads { OnlyReads F.tells F.contents F.block_count F.block_len F.moment F.left_since flash.old flash.new }
+        ensures faults { F.faults flash.old ≤ F.faults flash.new }
+    {
+        let bank = Bank::open(flash)?;
+        Loader::with_bank(alloc, me, bank)
+    }
+
+    /// Takes the next packet. It answers a verdict where one is reached. After a verdict or a fault no call is allowed.
+    pub fn packet<F: Flash>(
+        &mut self,
+        flash: &mut F,
+        packet: &Packet,
+    ) -> Result<Option<Verdict>, FlashFault>
+        requires usable { IsUsable S.Stage F.Flash self.old flash.old }
+        // No verdict is reached in the packets so far.
+        ensures follows { (me : Receiver) (ps : List (List ℕ)) → Follows S.Stage F.Flash me ps self.old flash.old
+            → IfOk result (λ answer. IfNone answer (Follows S.Stage F.Flash me (packet.now ∷ ps) self.new flash.new)) }
+        // Or one is reached. Whether or not the flash tells its contents, it is known which places were filled.
+        ensures seen { (me : Receiver) (ps : List (List ℕ)) → Follows S.Stage F.Flash me ps self.old flash.old
+            → IfOk result (IsSeen me (heard_by me (packet.now ∷ ps))) }
+        // The verdict that is reached in them, and what the flash holds then.
+        ensures goes_on { F.tells → (me : Receiver) (ps : List (List ℕ)) → Follows S.Stage F.Flash me ps self.old flash.old
+            → IfOk result (GoesOn me (heard_by me (packet.now ∷ ps)) (bank_of self.old) (F.contents flash.old) (F.contents flash.new)) }
+        // If the packets carry a group whole, and that is what is decided first, it is installed, unless a call fails.
+        ensures carried { F.tells → (me : Receiver) (ps : List (List ℕ)) (chosen : Chosen) (image : List ℕ)
+            → Follows S.Stage F.Flash me ps self.old flash.old → Reaches me (heard_by me (packet.now ∷ ps)) (Whole chosen image)
+            → (Rose (F.faults flash.old) (F.faults flash.new) → ⊥) → result ≡ Ok (Some (verdict.Installed chosen)) }
+        // What it may hold at any moment, also after a fault.
+        ensures held { F.tells → (me : Receiver) (ps : List (List ℕ)) → Follows S.Stage F.Flash me ps self.old flash.old
+            → SectionsLeave me (heard_by me (packet.now ∷ ps)) (bank_of self.old) (F.contents flash.old) (F.contents flash.new) }
+        ensures left { F.tells → (me : Receiver) (ps : List (List ℕ)) → Follows S.Stage F.Flash me ps self.old flash.old
+            → LeavesOnly F.moment F.left_since flash.old flash.new
+            (SectionsLeave me (heard_by me (packet.now ∷ ps)) (bank_of self.old) (F.contents flash.old)) }
+        // Before any choice began, the flash is not called.
+        ensures untouched { (me : Receiver) (ps : List (List ℕ)) → Follows S.Stage F.Flash me ps self.old flash.old
+            → beginnings me (heard_by me (packet.now ∷ ps)) ≡ 0 → flash.new ≡ flash.old }
+        ensures same_bank { IfOk result (λ answer. IfNone answer (SameBank (bank_of self.old) (bank_of self.new))) }
+        ensures lent { OnOk result (IsLent F.tells F.contents F.block_count F.block_len (bank_of self.new) flash.new) }
+        ensures geometry { geometry_of (bank_of self.new) ≡ geometry_of (bank_of self.old) }
+        ensures blocks { F.block_count flash.new ≡ F.block_count flash.old }
+        ensures block_size { F.block_len flash.new ≡ F.block_len flash.old }
+        ensures cause { HasCause (F.faults flash.old) (F.faults flash.new) result }
+    {
+        self.hearer.feed(packet, &mut self.each);
+        let answer = hear_each(&mut self.collector, flash, pid_in(packet), &self.each)?;
+        let pids = self.collector.route.listens();
+        self.hearer.listen(&pids);
+        Ok(answer)
+    }
+
+    /// What comes of the packets if no more come.
+    pub fn end(&self) -> Verdict
+        ensures verdict { (me : Receiver) (ps : List (List ℕ)) → KnowsPackets S.Stage me ps self.now
+            → IsVerdict me (heard_by me ps) result }
+    {
+        self.collector.end()
+    }
+
+    /// The loader over an open bank, before the first packet.
+    fn with_bank(alloc: Global, me: &BoxFile, bank: Bank) -> Result<Loader<S>, LoadFault>
+        ensures bank { IfOk result (λ loader. bank_of loader ≡ bank) }
+        ensures fresh { IfOk result (λ loader. IsFresh S.Stage (receiver_in me.now loader) loader) }
+        ensures memory { IfErr result (λ fault. fault ≡ load_fault.Memory) }
+    {
+        let stage = S::make(alloc, &bank)?;
+        let mut hearer = Hearer::new(alloc)?;
+        let each = SectionOut::new(alloc)?;
+        let route = Route::new(me, bank.bank_len());
+        let pids = route.listens();
+        hearer.listen(&pids);
+        Ok(Loader {
+            collector: Collector {
+                bank,
+                stage,
+                route,
+                choices: 0,
+            },
+            hearer,
+            each,
+        })
+    }
+}

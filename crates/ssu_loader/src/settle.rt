@@ -1,0 +1,102 @@
+//! What becomes of a group once a block of it was taken.
+
+ghost use Rattle.std.specs.Prelude.{◌≡◌, ◌≤◌, IfNone, IfOk, IfSome, List, None, OnOk, ℕ};
+ghost use Rattle.flash_bank.specs.Bank.{IsLent, geometry_of};
+ghost use Rattle.flash_dev.specs.Moments.{LeavesOnly};
+ghost use Rattle.ssu_group.specs.Carried.{carried_image, missing_places, wrong_module};
+ghost use Rattle.ssu_group.specs.Map.{missing_below};
+ghost use Rattle.ssu_io.specs.Faults.{HasCause};
+ghost use Rattle.ssu_loader.specs.Collecting.{HasFilled, HoldsFilling, Works};
+ghost use Rattle.ssu_loader.specs.Decisions.{chosen_of};
+ghost use Rattle.ssu_loader.specs.Settling.{IsOfGroup, Settles, SettlingLeaves};
+
+use crate::verdict::Verdict;
+use crate::wrong::first_wrong;
+use flash_bank::{Bank, FlashFault};
+use flash_dev::Flash;
+use flash_stage::Stage;
+use ssu_answer::Chosen;
+use ssu_route::Choice;
+
+/// Decides on the group of the choice once no place of it is missing: it is installed, or a module of it is wrong.
+pub(crate) fn settle<S: Stage, F: Flash>(
+    stage: &mut S,
+    bank: &mut Bank,
+    flash: &mut F,
+    choice: &Choice,
+) -> Result<Option<Verdict>, FlashFault>
+    requires works { Works S.Stage F.Flash choice.now.plan stage.old bank.old flash.old }
+    // Some place is missing, and nothing was done.
+    ensures missing { (window : List (List ℕ)) → HasFilled S.Stage choice.now.plan window stage.old
+        → IfOk result (λ answer. IfNone answer (1 ≤ missing_places choice.now.plan window)) }
+    ensures same { IfOk result (λ answer. IfNone answer ((stage.new ≡ stage.old) × (bank.new ≡ bank.old) × (flash.new ≡ flash.old))) }
+    // No place is missing.
+    ensures whole { (window : List (List ℕ)) → HasFilled S.Stage choice.now.plan window stage.old
+        → IfOk result (λ answer. IfSome answer (λ verdict. IsOfGroup verdict × (missing_places choice.now.plan window ≡ 0))) }
+    ensures settled { F.tells → (window : List (List ℕ)) → HasFilled S.Stage choice.now.plan window stage.old
+        → HoldsFilling S.Stage choice.now.plan window stage.old bank.old (F.contents flash.old)
+        → IfOk result (λ answer. IfSome answer (Settles choice.now window bank.old (F.contents flash.old) (F.contents flash.new))) }
+    ensures held { F.tells → (window : List (List ℕ)) → HasFilled S.Stage choice.now.plan window stage.old
+        → HoldsFilling S.Stage choice.now.plan window stage.old bank.old (F.contents flash.old)
+        → SettlingLeaves choice.now window bank.old (F.contents flash.old) (F.contents flash.new) }
+    ensures left { F.tells → (window : List (List ℕ)) → HasFilled S.Stage choice.now.plan window stage.old
+        → HoldsFilling S.Stage choice.now.plan window stage.old bank.old (F.contents flash.old)
+        → LeavesOnly F.moment F.left_since flash.old flash.new (SettlingLeaves choice.now window bank.old (F.contents flash.old)) }
+    ensures lent { OnOk result (IsLent F.tells F.contents F.block_count F.block_len bank.new flash.new) }
+    ensures geometry { geometry_of bank.new ≡ geometry_of bank.old }
+    ensures blocks { F.block_count flash.new ≡ F.block_count flash.old }
+    ensures block_size { F.block_len flash.new ≡ F.block_len flash.old }
+    ensures cause { HasCause (F.faults flash.old) (F.faults flash.new) result }
+{
+    if stage.missing() > 0 {
+        return Ok(None);
+    }
+    match first_wrong(stage, bank, flash, &choice.plan)? {
+        Some(wrong) => Ok(Some(Verdict::BadModule(wrong.id, wrong.want, wrong.found))),
+        None => install(stage, bank, flash, choice),
+    }
+}
+
+/// Installs the group, of which no place is missing.
+fn install<S: Stage, F: Flash>(
+    stage: &mut S,
+    bank: &mut Bank,
+    flash: &mut F,
+    choice: &Choice,
+) -> Result<Option<Verdict>, FlashFault>
+    requires works { Works S.Stage F.Flash choice.now.plan stage.old bank.old flash.old }
+    requires whole { missing_below (S.has stage.old) choice.now.plan.places ≡ 0 }
+    ensures some { IfOk result (λ answer. IfNone answer ⊥) }
+    ensures group { IfOk result (λ answer. IfSome answer IsOfGroup) }
+    ensures settled { F.tells → (window : List (List ℕ)) → HasFilled S.Stage choice.now.plan window stage.old
+        → HoldsFilling S.Stage choice.now.plan window stage.old bank.old (F.contents flash.old)
+        → wrong_module choice.now.plan.modules.items (carried_image choice.now.plan window) ≡ None
+        → IfOk result (λ answer. IfSome answer (Settles choice.now window bank.old (F.contents flash.old) (F.contents flash.new))) }
+    ensures held { F.tells → (window : List (List ℕ)) → HasFilled S.Stage choice.now.plan window stage.old
+        → HoldsFilling S.Stage choice.now.plan window stage.old bank.old (F.contents flash.old)
+        → wrong_module choice.now.plan.modules.items (carried_image choice.now.plan window) ≡ None
+        → SettlingLeaves choice.now window bank.old (F.contents flash.old) (F.contents flash.new) }
+    ensures left { F.tells → (window : List (List ℕ)) → HasFilled S.Stage choice.now.plan window stage.old
+        → HoldsFilling S.Stage choice.now.plan window stage.old bank.old (F.contents flash.old)
+        → wrong_module choice.now.plan.modules.items (carried_image choice.now.plan window) ≡ None
+        → LeavesOnly F.moment F.left_since flash.old flash.new (SettlingLeaves choice.now window bank.old (F.contents flash.old)) }
+    ensures lent { OnOk result (IsLent F.tells F.contents F.block_count F.block_len bank.new flash.new) }
+    ensures geometry { geometry_of bank.new ≡ geometry_of bank.old }
+    ensures blocks { F.block_count flash.new ≡ F.block_count flash.old }
+    ensures block_size { F.block_len flash.new ≡ F.block_len flash.old }
+    ensures cause { HasCause (F.faults flash.old) (F.faults flash.new) result }
+{
+    stage.finish(bank, flash, choice.software, choice.group)?;
+    Ok(Some(Verdict::Installed(chosen(choice))))
+}
+
+/// The group of the choice.
+pub(crate) fn chosen(choice: &Choice) -> Chosen
+    ensures { result ≡ chosen_of choice.now }
+{
+    Chosen {
+        group: choice.group,
+        software: choice.software,
+        bytes: choice.plan.total,
+    }
+}

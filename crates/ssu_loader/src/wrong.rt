@@ -1,0 +1,87 @@
+//! The first module that has not the CRC that it should have.
+
+ghost use Rattle.std.specs.Prelude.{◌≡◌, ◌≢◌, Contains, List, None, Some, IfOk, MatchOption, OnOk, true, ℕ};
+ghost use Rattle.std.specs.List.{find};
+ghost use Rattle.ssu_group.specs.Carried.{carried_image, is_right};
+ghost use Rattle.ssu_group.specs.Map.{missing_below};
+ghost use Rattle.ssu_group.specs.declared.module_plan.ModulePlan.{ModulePlan};
+ghost use Rattle.ssu_io.specs.Faults.{HasCause};
+ghost use Rattle.ssu_loader.specs.Collecting.{HasFilled, HoldsFilling, Works};
+ghost use Rattle.ssu_loader.specs.Settling.{IsWrongOf, Stays, is_wrong};
+
+use flash_bank::{Bank, FlashFault};
+use flash_dev::Flash;
+use flash_stage::Stage;
+use ssu_group::{GroupPlan, ModulePlan};
+
+/// A module with the CRC of its descriptor and the CRC of its bytes, which differ.
+#[derive(Clone, Copy, Debug, PartialEq, Eq)]
+pub(crate) struct Wrong {
+    pub(crate) id: u16,
+    pub(crate) want: u32,
+    pub(crate) found: u32,
+}
+
+/// Whether the bytes of the module have another CRC than its descriptor gives, if it gives one.
+fn wrong_of<S: Stage, F: Flash>(
+    stage: &mut S,
+    bank: &mut Bank,
+    flash: &mut F,
+    plan: &GroupPlan,
+    part: &ModulePlan,
+) -> Result<Option<Wrong>, FlashFault>
+    requires works { Works S.Stage F.Flash plan.now stage.old bank.old flash.old }
+    requires whole { missing_below (S.has stage.old) plan.now.places ≡ 0 }
+    requires part { Contains plan.now.modules.items part.now }
+    ensures works { OnOk result (Works S.Stage F.Flash plan.now stage.new bank.new flash.new) }
+    ensures wrong { F.tells → (window : List (List ℕ)) → HasFilled S.Stage plan.now window stage.old
+        → HoldsFilling S.Stage plan.now window stage.old bank.old (F.contents flash.old)
+        → IfOk result (λ answer. MatchOption answer (is_right (carried_image plan.now window) part.now ≡ true)
+        (λ wrong. IsWrongOf (carried_image plan.now window) part.now wrong)) }
+    ensures stays { Stays S.Stage F.Flash stage.old bank.old flash.old stage.new bank.new flash.new }
+    ensures most { S.most stage.new ≡ S.most stage.old }
+    ensures cause { HasCause (F.faults flash.old) (F.faults flash.new) result }
+{
+    let Some(want) = part.crc else {
+        return Ok(None);
+    };
+    let found = stage.module_crc(bank, flash, part)?;
+    Ok(wrong_if(part.id, want, found))
+}
+
+fn wrong_if(id: u16, want: u32, found: u32) -> Option<Wrong>
+    ensures { MatchOption result (found ≡ want) (λ wrong. (wrong ≡ record { id = id; want = want; found = found }) × (found ≢ want)) }
+{
+    if found == want {
+        return None;
+    }
+    Some(Wrong { id, want, found })
+}
+
+/// The first of the modules whose bytes have not the CRC that its descriptor gives.
+pub(crate) fn first_wrong<S: Stage, F: Flash>(
+    stage: &mut S,
+    bank: &mut Bank,
+    flash: &mut F,
+    plan: &GroupPlan,
+) -> Result<Option<Wrong>, FlashFault>
+    requires works { Works S.Stage F.Flash plan.now stage.old bank.old flash.old }
+    requires whole { missing_below (S.has stage.old) plan.now.places ≡ 0 }
+    ensures works { OnOk result (Works S.Stage F.Flash plan.now stage.new bank.new flash.new) }
+    ensures wrong { F.tells → (window : List (List ℕ)) → HasFilled S.Stage plan.now window stage.old
+        → HoldsFilling S.Stage plan.now window stage.old bank.old (F.contents flash.old)
+        → IfOk result (λ answer. MatchOption answer (find (is_wrong (carried_image plan.now window)) plan.now.modules.items ≡ None)
+        (λ wrong. (m : ModulePlan) × (find (is_wrong (carried_image plan.now window)) plan.now.modules.items ≡ Some m)
+        × IsWrongOf (carried_image plan.now window) m wrong)) }
+    ensures stays { Stays S.Stage F.Flash stage.old bank.old flash.old stage.new bank.new flash.new }
+    ensures most { S.most stage.new ≡ S.most stage.old }
+    ensures cause { HasCause (F.faults flash.old) (F.faults flash.new) result }
+{
+    for part in plan.modules.as_slice() {
+        match wrong_of(stage, bank, flash, plan, part)? {
+            None => {}
+            Some(wrong) => return Ok(Some(wrong)),
+        }
+    }
+    Ok(None)
+}
