@@ -21,10 +21,12 @@ const HELP: &str = "usage: ssu FOLDER COMMAND ARGUMENTS
   blank N       makes flash.bin, a blank flash of N blocks of 4096 bytes, 4 to 65536
   format FILE   formats flash.bin with the image in FILE and the software in box.toml
   boot          takes the image that boot takes in flash.bin into image.bin
+  replay        replays air.ts to the loader of the box in box.toml, which installs an update in flash.bin
 
-Exit codes: 0 done, 2 wrong words, 3 box.toml refused, 4 plan refused, 5 flash is foreign, 6 nothing found,
-7 incomplete, 8 bad module, 9 file absent, 10 read failed, 11 write failed, 12 flash failed, 14 input too long,
-15 out of memory, 16 image does not fit, 17 wrong geometry, 18 file could not be read, 20 build refused.
+Exit codes: 0 done or installed, 2 wrong words, 3 box.toml refused, 4 plan refused, 5 flash is foreign, 6 nothing found,
+7 incomplete, 8 bad module, 9 file absent, 10 read failed, 11 write failed, 12 flash failed, 13 records worn out,
+14 input too long, 15 out of memory, 16 image does not fit, 17 wrong geometry, 18 file could not be read, 19 unsettled,
+20 build refused.
 
 ssu --help and ssu --version print this text and the version.
 ";

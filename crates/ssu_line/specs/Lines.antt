@@ -1,6 +1,7 @@
 -- The printed lines. Each ends with a line feed.
 use Rattle.std.specs.Prelude.{ℕ, List, ◌++◌, codes, decimal}
 use Rattle.ssu_answer.specs.Levels.{name_of, number_of}
+use Rattle.ssu_answer.specs.declared.chosen.Chosen.{Chosen}
 use Rattle.ssu_answer.specs.declared.level.Level.{Level}
 use Rattle.ssu_compat.specs.declared.rule.SwId.{SwId}
 use Rattle.ssu_line.specs.Digits.{hex_word}
@@ -9,6 +10,16 @@ use Rattle.ssu_line.specs.Digits.{hex_word}
 abbrev pub loaded_line : ℕ → ℕ → List ℕ
 loaded_line group bytes =
     codes "loaded group " ++ decimal group ++ codes " bytes " ++ decimal bytes ++ codes "\n"
+
+-- M.V
+abbrev pub software_text : SwId → List ℕ
+software_text software = decimal software.model ++ codes "." ++ decimal software.version
+
+-- installed group G software M.V bytes L
+abbrev pub installed_line : Chosen → List ℕ
+installed_line chosen =
+    codes "installed group " ++ decimal chosen.group ++ codes " software " ++ software_text chosen.software
+    ++ codes " bytes " ++ decimal chosen.bytes ++ codes "\n"
 
 -- nothing level K NAME
 abbrev pub nothing_line : Level → List ℕ
@@ -25,6 +36,10 @@ abbrev pub bad_module_line : ℕ → ℕ → ℕ → List ℕ
 bad_module_line id want found =
     codes "bad module " ++ decimal id ++ codes " want " ++ hex_word want ++ codes " found " ++ hex_word found ++ codes "\n"
 
+-- unsettled
+abbrev pub unsettled_line : List ℕ
+unsettled_line = codes "unsettled\n"
+
 -- sections N packets P
 abbrev pub built_line : ℕ → ℕ → List ℕ
 built_line sections packets =
@@ -37,10 +52,6 @@ blank_line blocks = codes "blank " ++ decimal blocks ++ codes "\n"
 -- formatted bytes L
 abbrev pub formatted_line : ℕ → List ℕ
 formatted_line bytes = codes "formatted bytes " ++ decimal bytes ++ codes "\n"
-
--- M.V
-abbrev pub software_text : SwId → List ℕ
-software_text software = decimal software.model ++ codes "." ++ decimal software.version
 
 -- boot bank B number N software M.V bytes L
 abbrev pub booted_line : ℕ → ℕ → SwId → ℕ → List ℕ

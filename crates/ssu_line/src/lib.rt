@@ -11,7 +11,9 @@ mod time_text;
 mod writing;
 
 pub use level_lines::{carousel, component, groups, modules, notices, program, services};
-pub use result_lines::{bad_module, blank, booted, built, formatted, incomplete, loaded, nothing};
+pub use result_lines::{
+    bad_module, blank, booted, built, formatted, incomplete, installed, loaded, nothing, unsettled,
+};
 pub use section_kind::SectionKind;
 pub use section_line::shown;
 pub use writing::Line;

@@ -1,10 +1,10 @@
 //! What a command did.
 ghost use Rattle.std.specs.Prelude.{◌≡◌, ◌+◌, ◌≤◌, ◌++◌};
 ghost use Rattle.arrayvec.specs.ArrayString.{array_string_len};
-ghost use Rattle.ssu_line.specs.Lines.{loaded_line, nothing_line, incomplete_line, bad_module_line, built_line, blank_line, formatted_line, booted_line, software_text};
+ghost use Rattle.ssu_line.specs.Lines.{loaded_line, installed_line, nothing_line, incomplete_line, bad_module_line, unsettled_line, built_line, blank_line, formatted_line, booted_line, software_text};
 
 use crate::writing::{Line, put_count, put_hex_word, put_number};
-use ssu_answer::Level;
+use ssu_answer::{Chosen, Level};
 use ssu_compat::SwId;
 
 /// `loaded group G bytes L`: the id of the group and the length of its image.
@@ -16,6 +16,21 @@ pub fn loaded(group: u32, bytes: u32) -> Line
     put_number(&mut line, group);
     line.push_str(" bytes ");
     put_number(&mut line, bytes);
+    line.push_str("\n");
+    line
+}
+
+/// `installed group G software M.V bytes L`: the id of the group, the software that it offers and the length of its image.
+pub fn installed(chosen: Chosen) -> Line
+    ensures { result.bytes ≡ installed_line chosen }
+{
+    let mut line = Line::new();
+    line.push_str("installed group ");
+    put_number(&mut line, chosen.group);
+    line.push_str(" software ");
+    put_software(&mut line, chosen.software);
+    line.push_str(" bytes ");
+    put_number(&mut line, chosen.bytes);
     line.push_str("\n");
     line
 }
@@ -58,6 +73,15 @@ pub fn bad_module(id: u16, want: u32, found: u32) -> Line
     line.push_str(" found ");
     put_hex_word(&mut line, found);
     line.push_str("\n");
+    line
+}
+
+/// `unsettled`: a seventeenth choice of a group would begin.
+pub fn unsettled() -> Line
+    ensures { result.bytes ≡ unsettled_line }
+{
+    let mut line = Line::new();
+    line.push_str("unsettled\n");
     line
 }
 

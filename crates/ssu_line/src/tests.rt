@@ -1,8 +1,8 @@
 use crate::{
     Line, SectionKind, bad_module, blank, booted, built, carousel, component, formatted, groups,
-    incomplete, loaded, modules, nothing, notices, program, services, shown,
+    incomplete, installed, loaded, modules, nothing, notices, program, services, shown, unsettled,
 };
-use ssu_answer::Level;
+use ssu_answer::{Chosen, Level};
 use ssu_compat::SwId;
 use ssu_time::Utc;
 use std::test::Fail;
@@ -18,8 +18,17 @@ fn results_are_told(rt: HostRuntime) -> Result<(), Fail> {
         model: 1,
         version: 2,
     };
-    let rows: [(Line, &str); 8] = [
+    let chosen = Chosen {
+        group: 2147483650,
+        software,
+        bytes: 244000,
+    };
+    let rows: [(Line, &str); 10] = [
         (loaded(2147483650, 9), "loaded group 2147483650 bytes 9\n"),
+        (
+            installed(chosen),
+            "installed group 2147483650 software 1.2 bytes 244000\n",
+        ),
         (nothing(Level::Modules), "nothing level 7 modules\n"),
         (
             incomplete(2147483650, 1),
@@ -29,6 +38,7 @@ fn results_are_told(rt: HostRuntime) -> Result<(), Fail> {
             bad_module(1, 0, 0x0376e6e7),
             "bad module 1 want 00000000 found 0376e6e7\n",
         ),
+        (unsettled(), "unsettled\n"),
         (built(7, 7), "sections 7 packets 7\n"),
         (blank(4), "blank 4\n"),
         (formatted(5), "formatted bytes 5\n"),

@@ -5,10 +5,11 @@ use Rattle.ssu_answer.specs.declared.build_fault.BuildFault.TheVariants.{ImageTo
 use Rattle.ssu_answer.specs.declared.chosen.Chosen.{Chosen}
 use Rattle.ssu_answer.specs.declared.level.Level.{Level}
 use Rattle.ssu_status.specs.declared.status.Status.{Status}
-use Rattle.ssu_status.specs.declared.status.Status.TheVariants.{Done, Usage, BoxRefused, PlanRefused, Foreign, Nothing, Incomplete, BadModule, Absent, ReadFault, WriteFault, FlashFault, TooLong, NoMemory, NoFit, Geometry, ShelfFault, BuildRefused}
+use Rattle.ssu_status.specs.declared.status.Status.TheVariants.{Done, Installed, Usage, BoxRefused, PlanRefused, Foreign, Nothing, Incomplete, BadModule, Absent, ReadFault, WriteFault, FlashFault, Worn, TooLong, NoMemory, NoFit, Geometry, ShelfFault, Unsettled, BuildRefused}
 
 abbrev pub code_of : Status → ℕ
 code_of Done = 0
+code_of (Installed chosen) = 0
 code_of Usage = 2
 code_of (BoxRefused field) = 3
 code_of (PlanRefused field) = 4
@@ -20,11 +21,13 @@ code_of (Absent name) = 9
 code_of ReadFault = 10
 code_of WriteFault = 11
 code_of FlashFault = 12
+code_of Worn = 13
 code_of TooLong = 14
 code_of NoMemory = 15
 code_of NoFit = 16
 code_of Geometry = 17
 code_of ShelfFault = 18
+code_of Unsettled = 19
 code_of (BuildRefused fault) = 20
 
 abbrev pub refusal_text : BuildFault → List ℕ
@@ -34,6 +37,7 @@ refusal_text Memory = []
 
 abbrev pub text_of : Status → List ℕ
 text_of Done = []
+text_of (Installed chosen) = []
 text_of Usage = codes "usage"
 text_of (BoxRefused field) = codes "box.toml refused at " ++ field.bytes
 text_of (PlanRefused field) = codes "plan refused at " ++ field.bytes
@@ -45,11 +49,13 @@ text_of (Absent name) = name.bytes ++ codes " is absent"
 text_of ReadFault = codes "read failed"
 text_of WriteFault = codes "write failed"
 text_of FlashFault = codes "flash failed"
+text_of Worn = codes "records are worn out"
 text_of TooLong = codes "input too long"
 text_of NoMemory = codes "out of memory"
 text_of NoFit = codes "image does not fit"
 text_of Geometry = codes "flash has a wrong geometry"
 text_of ShelfFault = codes "file could not be read"
+text_of Unsettled = []
 text_of (BuildRefused fault) = refusal_text fault
 
 -- ---- the fact for one status
@@ -57,6 +63,10 @@ text_of (BuildRefused fault) = refusal_text fault
 abbrev pub OnDone : Status → Type 0 → Type 0
 OnDone Done fact = fact
 OnDone other fact = Unit {0}
+
+abbrev pub OnInstalled : Status → (Chosen → Type 0) → Type 0
+OnInstalled (Installed chosen) fact = fact chosen
+OnInstalled other fact = Unit {0}
 
 abbrev pub OnUsage : Status → Type 0 → Type 0
 OnUsage Usage fact = fact
@@ -102,6 +112,10 @@ abbrev pub OnFlashFault : Status → Type 0 → Type 0
 OnFlashFault FlashFault fact = fact
 OnFlashFault other fact = Unit {0}
 
+abbrev pub OnWorn : Status → Type 0 → Type 0
+OnWorn Worn fact = fact
+OnWorn other fact = Unit {0}
+
 abbrev pub OnTooLong : Status → Type 0 → Type 0
 OnTooLong TooLong fact = fact
 OnTooLong other fact = Unit {0}
@@ -121,6 +135,10 @@ OnGeometry other fact = Unit {0}
 abbrev pub OnShelfFault : Status → Type 0 → Type 0
 OnShelfFault ShelfFault fact = fact
 OnShelfFault other fact = Unit {0}
+
+abbrev pub OnUnsettled : Status → Type 0 → Type 0
+OnUnsettled Unsettled fact = fact
+OnUnsettled other fact = Unit {0}
 
 abbrev pub OnBuildRefused : Status → (BuildFault → Type 0) → Type 0
 OnBuildRefused (BuildRefused fault) fact = fact fault

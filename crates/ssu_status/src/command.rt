@@ -27,6 +27,8 @@ pub enum Command {
     Format(FileName),
     /// `boot`: the image that boot takes.
     Boot,
+    /// `replay`: the packets of `air.ts` to the loader of the box.
+    Replay,
 }
 
 impl Command {
@@ -48,8 +50,11 @@ impl Command {
         ensures { result.bytes ≡ file_made_by (task_of self.now) }
     {
         match self {
-            Command::Hear(_) | Command::Find | Command::Show | Command::Format(_) =>
-                FileName::new(),
+            Command::Hear(_)
+            | Command::Find
+            | Command::Show
+            | Command::Format(_)
+            | Command::Replay => FileName::new(),
             Command::Load(_) => named("group.bin"),
             Command::Build => named("air.ts"),
             Command::Blank(_) => named("flash.bin"),
@@ -77,6 +82,7 @@ fn alone(command: &str) -> Option<Command>
         "show" => Some(Command::Show),
         "build" => Some(Command::Build),
         "boot" => Some(Command::Boot),
+        "replay" => Some(Command::Replay),
         _ => None,
     }
 }

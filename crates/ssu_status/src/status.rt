@@ -14,6 +14,8 @@ pub type Text = ArrayString<96>;
 #[derive(Clone, Copy, Debug, PartialEq, Eq)]
 pub enum Status {
     Done,
+    /// The group is whole, and boot takes it.
+    Installed(Chosen),
     /// The words are no command line.
     Usage,
     /// The first bad field of `box.toml`.
@@ -36,6 +38,8 @@ pub enum Status {
     WriteFault,
     /// The flash failed.
     FlashFault,
+    /// The number of the current record is 4,294,967,295, and none comes after it.
+    Worn,
     /// The input has more than 16,777,216 packets.
     TooLong,
     NoMemory,
@@ -45,6 +49,8 @@ pub enum Status {
     Geometry,
     /// A file of the folder could not be read.
     ShelfFault,
+    /// A seventeenth choice of a group would begin.
+    Unsettled,
     /// The sections of the plan are not made.
     BuildRefused(BuildFault),
 }
@@ -55,7 +61,7 @@ impl Status {
         ensures { result ≡ code_of self.now }
     {
         match self {
-            Status::Done => 0,
+            Status::Done | Status::Installed(_) => 0,
             Status::Usage => 2,
             Status::BoxRefused(_) => 3,
             Status::PlanRefused(_) => 4,
@@ -67,11 +73,13 @@ impl Status {
             Status::ReadFault => 10,
             Status::WriteFault => 11,
             Status::FlashFault => 12,
+            Status::Worn => 13,
             Status::TooLong => 14,
             Status::NoMemory => 15,
             Status::NoFit => 16,
             Status::Geometry => 17,
             Status::ShelfFault => 18,
+            Status::Unsettled => 19,
             Status::BuildRefused(_) => 20,
         }
     }
@@ -89,6 +97,7 @@ impl Status {
             Status::ReadFault => text("read failed"),
             Status::WriteFault => text("write failed"),
             Status::FlashFault => text("flash failed"),
+            Status::Worn => text("records are worn out"),
             Status::TooLong => text("input too long"),
             Status::NoMemory => text("out of memory"),
             Status::NoFit => text("image does not fit"),
@@ -96,9 +105,11 @@ impl Status {
             Status::ShelfFault => text("file could not be read"),
             Status::BuildRefused(fault) => build_text(fault),
             Status::Done
+            | Status::Installed(_)
             | Status::Nothing(_)
             | Status::Incomplete(_, _)
-            | Status::BadModule(_, _, _) => text(""),
+            | Status::BadModule(_, _, _)
+            | Status::Unsettled => text(""),
         }
     }
 }

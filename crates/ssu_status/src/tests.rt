@@ -17,7 +17,7 @@ fn the_words_of_each_command_are_read(rt: HostRuntime) -> Result<(), Fail> {
     let pid = Pid::new(8191).ok_or("a PID")?;
     let name = FileName::from("a.bin").map_err(|_| "a name")?;
     // words behind the folder, command, file that is made
-    let rows: [(&[&str], Command, &str); 9] = [
+    let rows: [(&[&str], Command, &str); 10] = [
         (&["hear", "8191"], Command::Hear(pid), ""),
         (&["load", "8191"], Command::Load(pid), "group.bin"),
         (&["find"], Command::Find, ""),
@@ -27,6 +27,7 @@ fn the_words_of_each_command_are_read(rt: HostRuntime) -> Result<(), Fail> {
         (&["blank", "65536"], Command::Blank(65_536), "flash.bin"),
         (&["format", "a.bin"], Command::Format(name), ""),
         (&["boot"], Command::Boot, "image.bin"),
+        (&["replay"], Command::Replay, ""),
     ];
     for (behind, command, made) in rows {
         let mut words = owned(rt.alloc(), &["folder"])?;
@@ -58,7 +59,7 @@ fn other_words_are_no_command(rt: HostRuntime) -> Result<(), Fail> {
         &["folder", "format", ".a"],
         &["folder", "format", ""],
         &["folder", "boot", "0"],
-        &["folder", "replay"],
+        &["folder", "replay", "0"],
     ];
     for words in rows {
         let words = owned(rt.alloc(), words)?;
@@ -83,6 +84,7 @@ fn each_status_has_its_code_and_text(rt: HostRuntime) -> Result<(), Fail> {
     };
     let rows = [
         (Status::Done, 0, ""),
+        (Status::Installed(chosen), 0, ""),
         (Status::Usage, 2, "usage"),
         (Status::BoxRefused(field), 3, "box.toml refused at rule"),
         (Status::PlanRefused(field), 4, "plan refused at rule"),
@@ -94,11 +96,13 @@ fn each_status_has_its_code_and_text(rt: HostRuntime) -> Result<(), Fail> {
         (Status::ReadFault, 10, "read failed"),
         (Status::WriteFault, 11, "write failed"),
         (Status::FlashFault, 12, "flash failed"),
+        (Status::Worn, 13, "records are worn out"),
         (Status::TooLong, 14, "input too long"),
         (Status::NoMemory, 15, "out of memory"),
         (Status::NoFit, 16, "image does not fit"),
         (Status::Geometry, 17, "flash has a wrong geometry"),
         (Status::ShelfFault, 18, "file could not be read"),
+        (Status::Unsettled, 19, ""),
         (
             Status::BuildRefused(BuildFault::ImageTooLong(name)),
             20,

@@ -1,7 +1,7 @@
 -- What each command does, by what the words ask for. An object that a command has no use for is as it was.
 use Rattle.std.specs.Prelude.{◌≡◌}
 use Rattle.ssu_status.specs.declared.status.Status.{Status}
-use Rattle.ssu_status.specs.Words.{Task, ToHear, ToLoad, ToFind, ToShow, ToBuild, ToBlank, ToFormat, ToBoot}
+use Rattle.ssu_status.specs.Words.{Task, ToHear, ToLoad, ToFind, ToShow, ToBuild, ToBlank, ToFormat, ToBoot, ToReplay}
 use Rattle.ssu_tool.specs.Seen.{ShelfSeen, SourceSeen, FlashSeen, SinkSeen}
 use Rattle.ssu_tool.specs.Hear.{HearDoes}
 use Rattle.ssu_tool.specs.Load.{LoadDoes}
@@ -11,6 +11,7 @@ use Rattle.ssu_tool.specs.Build.{BuildDoes}
 use Rattle.ssu_tool.specs.Blank.{BlankDoes}
 use Rattle.ssu_tool.specs.Format.{FormatDoes}
 use Rattle.ssu_tool.specs.Boot.{BootDoes}
+use Rattle.ssu_tool.specs.Replay.{ReplayDoes}
 
 abbrev pub Does : {H A F W T : Type 0} → Task → Status → ShelfSeen H → SourceSeen A → FlashSeen F → SinkSeen W → SinkSeen T → Type 0
 Does (ToHear pid) result shelf air flash made out =
@@ -29,3 +30,5 @@ Does (ToFormat name) result shelf air flash made out =
     FormatDoes name result shelf flash out × ((air.new ≡ air.old) × (made.new ≡ made.old))
 Does ToBoot result shelf air flash made out =
     BootDoes result flash made out × ((shelf.new ≡ shelf.old) × (air.new ≡ air.old))
+Does ToReplay result shelf air flash made out =
+    ReplayDoes result shelf air flash out × (made.new ≡ made.old)

@@ -7,4 +7,5 @@ pub mod Build
 pub mod Blank
 pub mod Format
 pub mod Boot
+pub mod Replay
 pub mod Does

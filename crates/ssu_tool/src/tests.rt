@@ -388,6 +388,33 @@ fn a_formatted_flash_is_booted(rt: HostRuntime) -> Result<(), Fail> {
 }
 
 #[test]
+fn a_built_stream_is_installed_and_booted(rt: HostRuntime) -> Result<(), Fail> {
+    let alloc = rt.alloc();
+    let mut shelf = shelf_with(alloc, PLAN)?;
+    let mut flash = SureFlash::blank(alloc, 4, 4096)?;
+    let none = Vec::new(alloc);
+    let built = outcome_on(alloc, &["folder", "build"], &mut shelf, none, &mut flash)?;
+    assert_eq!(rt; built.status, Status::Done);
+    // box.toml is the old image
+    let words = ["folder", "format", "box.toml"];
+    let none = Vec::new(alloc);
+    let formatted = outcome_on(alloc, &words, &mut shelf, none, &mut flash)?;
+    assert_eq!(rt; formatted.status, Status::Done);
+    let words = ["folder", "replay"];
+    let replayed = outcome_on(alloc, &words, &mut shelf, built.made, &mut flash)?;
+    assert_eq!(rt; replayed.status.code(), 0);
+    let line = "installed group 2147483650 software 1.2 bytes 9\n".as_bytes();
+    assert_eq!(rt; replayed.put.as_slice(), line);
+    assert!(rt; replayed.made.is_empty());
+    let none = Vec::new(alloc);
+    let booted = outcome_on(alloc, &["folder", "boot"], &mut shelf, none, &mut flash)?;
+    assert_eq!(rt; booted.made.as_slice(), "123456789".as_bytes());
+    let line = "boot bank 1 number 2 software 1.2 bytes 9\n".as_bytes();
+    assert_eq!(rt; booted.put.as_slice(), line);
+    Ok(())
+}
+
+#[test]
 fn the_first_sixteen_of_seventeen_services_are_kept(rt: HostRuntime) -> Result<(), Fail> {
     let alloc = rt.alloc();
     // A first loop of 17 linkages of type 0x09 for the OUI 4660, and no entry.

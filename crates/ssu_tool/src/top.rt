@@ -6,6 +6,7 @@ ghost use Rattle.ssu_status.specs.declared.status.Status.TheVariants.{Usage};
 ghost use Rattle.ssu_tool.specs.Does.{Does};
 
 use flash_dev::Flash;
+use flash_stage::RamStage;
 use ssu_io::{Sink, Source};
 use ssu_shelf::Shelf;
 use ssu_status::{Command, Status};
@@ -15,6 +16,7 @@ use tool_find::{find, show};
 use tool_flash::{blank, boot, format};
 use tool_hear::hear;
 use tool_load::load;
+use tool_replay::replay;
 
 /// Does what the words ask for, with the files of `shelf`, the packets of `air` and the flash. What a command makes goes into
 /// `made`, and what it prints into `out`.
@@ -97,5 +99,6 @@ fn dispatch<H: Shelf, A: Source, F: Flash, W: Sink, T: Sink>(
         Command::Blank(blocks) => blank(blocks, made, out),
         Command::Format(name) => format(alloc, &name, shelf, flash, out),
         Command::Boot => boot(flash, made, out),
+        Command::Replay => replay::<H, A, F, T, RamStage>(alloc, shelf, air, flash, out),
     }
 }

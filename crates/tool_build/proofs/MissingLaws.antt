@@ -4,7 +4,7 @@ use Rattle.std.specs.Prelude.{Option, Some, None, Ok, Err, slice_get}
 use Rattle.ssu_shelf.specs.Files.{File, Has}
 use Rattle.ssu_status.specs.Status.{OnAbsent}
 use Rattle.ssu_status.specs.declared.status.Status.{Status}
-use Rattle.ssu_status.specs.declared.status.Status.TheVariants.{Done, Usage, BoxRefused, PlanRefused, Foreign, Nothing, Incomplete, BadModule, Absent, ReadFault, WriteFault, FlashFault, TooLong, NoMemory, NoFit, Geometry, ShelfFault, BuildRefused}
+use Rattle.ssu_status.specs.declared.status.Status.TheVariants.{Absent}
 use Rattle.arrayvec.specs.ArrayString.{ArrayString}
 use Rattle.tool_box.specs.Fetching.{HasNone, IsAbsent, Lacks, SaysAbsent, TellsAbsence}
 use Rattle.tool_build.specs.Held.{HasEach, IsFirstMissing}
@@ -44,27 +44,11 @@ lacks_of T (Some files) name x h = h.0 tt
 
 pub first_missing : (T : Type 0) (held : Option (List File)) (names images : List (List ℕ)) (k : ℕ) (name : List ℕ) (s : Status) → slice_get names k ≡ Some name → HasEach held (take k names) images
     → TellsAbsence {T = T} held name (Err s) → OnAbsent s (λ told. told ≡ name) → OnAbsent s (λ told. IsFirstMissing held names told)
-first_missing T held names images k name Done at each tells is = tt
-first_missing T held names images k name Usage at each tells is = tt
-first_missing T held names images k name (BoxRefused x) at each tells is = tt
-first_missing T held names images k name (PlanRefused x) at each tells is = tt
-first_missing T held names images k name Foreign at each tells is = tt
-first_missing T held names images k name (Nothing x) at each tells is = tt
-first_missing T held names images k name (Incomplete x y) at each tells is = tt
-first_missing T held names images k name (BadModule x y z) at each tells is = tt
 first_missing T held names images k name (Absent x) at each tells is =
     let lacks : Lacks held x.bytes = rw is (lacks_of T held name x tells) in
     let parts : names ≡ take k names ++ x.bytes ∷ drop (k + 1) names = rw is (split_named names k name at) in
     record { before = take k names; after = drop (k + 1) names; parts = parts; images = images; present = each; lacks = lacks }
-first_missing T held names images k name ReadFault at each tells is = tt
-first_missing T held names images k name WriteFault at each tells is = tt
-first_missing T held names images k name FlashFault at each tells is = tt
-first_missing T held names images k name TooLong at each tells is = tt
-first_missing T held names images k name NoMemory at each tells is = tt
-first_missing T held names images k name NoFit at each tells is = tt
-first_missing T held names images k name Geometry at each tells is = tt
-first_missing T held names images k name ShelfFault at each tells is = tt
-first_missing T held names images k name (BuildRefused x) at each tells is = tt
+first_missing T held names images k name other at each tells is = tt
 
 -- where a name is missing, the answer says so
 pub says_absent : (T : Type 0) (held : Option (List File)) (name : List ℕ) (s : Status) → TellsAbsence {T = T} held name (Err s) → OnAbsent s (λ told. told ≡ name) → HasNone held name → SaysAbsent name s
@@ -72,24 +56,8 @@ says_absent T None name s tells is none = absurd none
 says_absent T (Some files) name s tells is none = by_status name s (tells.1 none) is
   where
     by_status : (name : List ℕ) (s : Status) → IsAbsent s → OnAbsent s (λ told. told ≡ name) → SaysAbsent name s
-    by_status name Done absent is = absurd absent
-    by_status name Usage absent is = absurd absent
-    by_status name (BoxRefused x) absent is = absurd absent
-    by_status name (PlanRefused x) absent is = absurd absent
-    by_status name Foreign absent is = absurd absent
-    by_status name (Nothing x) absent is = absurd absent
-    by_status name (Incomplete x y) absent is = absurd absent
-    by_status name (BadModule x y z) absent is = absurd absent
     by_status name (Absent x) absent is = is
-    by_status name ReadFault absent is = absurd absent
-    by_status name WriteFault absent is = absurd absent
-    by_status name FlashFault absent is = absurd absent
-    by_status name TooLong absent is = absurd absent
-    by_status name NoMemory absent is = absurd absent
-    by_status name NoFit absent is = absurd absent
-    by_status name Geometry absent is = absurd absent
-    by_status name ShelfFault absent is = absurd absent
-    by_status name (BuildRefused x) absent is = absurd absent
+    by_status name other absent is = absurd absent
 
 pub is_there : {T : Type 0} (held : Option (List File)) (name : List ℕ) (x : T) → TellsAbsence held name (Ok x) → HasNone held name → ⊥
 is_there None name x tells none = none

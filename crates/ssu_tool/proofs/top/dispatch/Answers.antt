@@ -192,3 +192,55 @@ returns-in-Boot-clause-does g c = rw c.in-Boot.is (
   },
   (refl, refl),
 )
+
+pub returns-in-Replay-clause-does : goal.returns-in-Replay-clause-does
+returns-in-Replay-clause-does g c = rw c.in-Replay.is (
+  record {
+    installed = c.replay.ensures.installed;
+    nothing = c.replay.ensures.nothing;
+    incomplete = c.replay.ensures.incomplete;
+    bad_module = c.replay.ensures.bad_module;
+    unsettled = c.replay.ensures.unsettled;
+    write_fault = c.replay.ensures.write_fault;
+    carried = c.replay.ensures.carried;
+    held = c.replay.ensures.held;
+    left = c.replay.ensures.left;
+    read_fault = c.replay.ensures.read_fault;
+    too_long = c.replay.ensures.too_long;
+    kept = c.replay.ensures.kept;
+    flash_fault = c.replay.ensures.flash_fault;
+    taken = c.replay.ensures.taken;
+    untouched = c.replay.ensures.untouched;
+    absent = c.replay.ensures.absent;
+    no_box = c.replay.ensures.no_box;
+    box_refused = c.replay.ensures.box_refused;
+    box_read = c.replay.ensures.box_read;
+    geometry = c.replay.ensures.geometry;
+    foreign = c.replay.ensures.foreign;
+    worn = c.replay.ensures.worn;
+    sound = c.replay.ensures.sound;
+    not_worn = c.replay.ensures.not_worn;
+    absent_cause = c.replay.ensures.absent_cause;
+    shelf_cause = c.replay.ensures.shelf_cause;
+    read_cause = c.replay.ensures.read_cause;
+    flash_cause = c.replay.ensures.flash_cause;
+    write_cause = c.replay.ensures.write_cause;
+    complete = c.replay.ensures.complete;
+    answer = c.replay.ensures.answer;
+    file_refused = c.replay.ensures.file_refused;
+    unopened = c.replay.ensures.unopened;
+    unsound = c.replay.ensures.unsound;
+    worn_out = c.replay.ensures.worn_out;
+    unread = c.replay.ensures.unread;
+    unprinted = c.replay.ensures.unprinted;
+    shelf_same = c.replay.ensures.shelf_same;
+    blocks = c.replay.ensures.blocks;
+    block_size = c.replay.ensures.block_size;
+    shelf_later = c.replay.ensures.shelf_later;
+    absences_later = c.replay.ensures.absences_later;
+    air_later = c.replay.ensures.air_later;
+    flash_later = c.replay.ensures.flash_later;
+    out_later = c.replay.ensures.out_later;
+  },
+  refl,
+)

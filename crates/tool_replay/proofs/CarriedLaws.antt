@@ -1,0 +1,61 @@
+-- The box of a shelf that tells its files.
+use Rattle.std.proofs.Common.{◌≡◌, ℕ, List, Option, Some, None, Ok, Err, IsErrOf, refl, subst, sym, ◌∙◌}
+use Rattle.box_file.specs.BoxText.{box_of}
+use Rattle.box_file.specs.declared.file.BoxFile.{BoxFile}
+use Rattle.flash_bank.specs.Layout.{Geometry}
+use Rattle.ssu_compat.specs.declared.rule.SwId.{SwId}
+use Rattle.ssu_loader.specs.Decisions.{Decision, Reaches}
+use Rattle.ssu_loader.specs.Replays.{heard_in}
+use Rattle.ssu_loader.specs.Verdicts.{receiver_of}
+use Rattle.ssu_loader.specs.declared.fault.LoadFault.{LoadFault}
+use Rattle.ssu_loader.specs.declared.fault.LoadFault.TheVariants.{Memory}
+use Rattle.ssu_loader.specs.declared.verdict.Verdict.{Verdict}
+use Rattle.ssu_route.specs.Windows.{beginnings}
+use Rattle.ssu_shelf.specs.Files.{File}
+use Rattle.ssu_status.specs.Status.{OnBoxRefused, OnShelfFault}
+use Rattle.ssu_status.specs.declared.status.Status.{Status}
+use Rattle.ssu_status.specs.declared.status.Status.TheVariants.{Absent, BoxRefused, NoMemory, ShelfFault}
+use Rattle.tool_box.specs.Boxes.{IsBoxRefusal, RefusesBox, TellsBox, box_name}
+use Rattle.tool_box.specs.Fetching.{TellsAbsence}
+use Rattle.tool_replay.specs.Replaying.{HoldsBox}
+
+same_text : (files : List File) (a b : BoxFile) (h : TellsBox (Some files) a) (t : TellsBox (Some files) b) → h.text ≡ t.text
+same_text files a b h t = let has = h.has in let had = t.has in cc
+
+-- it tells of one box
+pub same_box : (held : Option (List File)) (a b : BoxFile) → HoldsBox held a → TellsBox held b → a ≡ b
+same_box None a b holds tells = absurd holds
+same_box (Some files) a b holds tells =
+    let text : holds.text ≡ tells.text = same_text files a b holds tells in
+    let read : box_of tells.text ≡ Ok a = subst (λ (t : List ℕ). box_of t ≡ Ok a) text holds.read in
+    let reads = tells.read in cc
+
+-- and it is had, but for want of memory, where the shelf did not fail
+pub box_is_had : {Rise : Type 0} (T : Type 0) (held : Option (List File)) (a : BoxFile) (s : Status) → HoldsBox held a → IsBoxRefusal s → TellsAbsence {T = T} held box_name (Err s)
+    → OnBoxRefused s (λ field. RefusesBox held field) → OnShelfFault s Rise → (Rise → ⊥) → (s ≡ NoMemory → ⊥) → ⊥
+box_is_had T None a s holds refusal absence refused failed unfailed memory = holds
+box_is_had T (Some files) a (Absent name) holds refusal absence refused failed unfailed memory =
+    let none = absence.0 tt in let has = holds.has in cc
+box_is_had T (Some files) a (BoxRefused field) holds refusal absence refused failed unfailed memory =
+    let has = holds.has in let had = refused.has in
+    let text : holds.text ≡ refused.text = cc in
+    let read : box_of refused.text ≡ Ok a = subst (λ (t : List ℕ). box_of t ≡ Ok a) text holds.read in
+    let reads = refused.read in cc
+box_is_had T (Some files) a ShelfFault holds refusal absence refused failed unfailed memory = unfailed failed
+box_is_had T (Some files) a NoMemory holds refusal absence refused failed unfailed memory = memory refl
+box_is_had T (Some files) a other holds refusal absence refused failed unfailed memory = absurd refusal
+
+-- what is decided for the box that it tells of is decided for the box that was had
+pub for_box : (held : Option (List File)) (a b : BoxFile) (g : Geometry) (running : SwId) (front : List ℕ) (d : Decision) → HoldsBox held a → TellsBox held b
+    → Reaches (receiver_of a g running) (heard_in (receiver_of a g running) front) d → Reaches (receiver_of b g running) (heard_in (receiver_of b g running) front) d
+for_box held a b g running front d holds tells reaches =
+    subst (λ (box_file : BoxFile). Reaches (receiver_of box_file g running) (heard_in (receiver_of box_file g running) front) d) (same_box held a b holds tells) reaches
+
+-- and so is the number of choices that begin
+pub begins_for_box : (held : Option (List File)) (a b : BoxFile) (g : Geometry) (running : SwId) (taken : List ℕ) → HoldsBox held a → TellsBox held b
+    → beginnings (receiver_of a g running) (heard_in (receiver_of a g running) taken) ≡ 0 → beginnings (receiver_of b g running) (heard_in (receiver_of b g running) taken) ≡ 0
+begins_for_box held a b g running taken holds tells none =
+    subst (λ (box_file : BoxFile). beginnings (receiver_of box_file g running) (heard_in (receiver_of box_file g running) taken) ≡ 0) (same_box held a b holds tells) none
+
+pub not_memory : (e f : LoadFault) → e ≡ f → (f ≡ Memory → ⊥) → IsErrOf {T = Verdict} (Err e) Memory → ⊥
+not_memory e f is other memory = other (let same : e ≡ Memory = cc in sym is ∙ same)

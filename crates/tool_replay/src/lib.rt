@@ -1,0 +1,8 @@
+//! The command `replay`: the packets of a transport stream to the loader of the box in `box.toml`.
+#![tactic(auto)]
+
+mod command;
+#[cfg(test)]
+mod tests;
+
+pub use command::replay;
