@@ -41,12 +41,23 @@ software_version = 7
 '''
 
 
-def least_time(words):
+def run(words):
+    subprocess.run([os.path.join(TOP, "ssu"), FOLDER] + words, stdout=subprocess.DEVNULL, check=True)
+
+
+def old_flash():
+    """A flash of 2,100 blocks of 4,096 bytes with an old image, so that a replay has something to install."""
+    run(["blank", "2100"])
+    run(["format", "c.bin"])
+
+
+def least_time(words, prepare=lambda: None):
     """The least processor time of twenty runs, in milliseconds."""
     times = []
     for _ in range(20):
+        prepare()
         before = resource.getrusage(resource.RUSAGE_CHILDREN)
-        subprocess.run([os.path.join(TOP, "ssu"), FOLDER] + words, stdout=subprocess.DEVNULL, check=True)
+        run(words)
         after = resource.getrusage(resource.RUSAGE_CHILDREN)
         times.append(after.ru_utime + after.ru_stime - before.ru_utime - before.ru_stime)
     return 1000 * min(times)
@@ -63,6 +74,6 @@ built = least_time(["build"])
 heard = least_time(["hear", "258"])
 print("build      %6.1f ms" % built)
 print("hear 258   %6.1f ms" % heard)
-for words in (["find"], ["show"], ["load", "258"]):
-    time = least_time(words)
+for words, prepare in ((["find"], lambda: None), (["show"], lambda: None), (["load", "258"], lambda: None), (["replay"], old_flash)):
+    time = least_time(words, prepare)
     print("%-10s %6.1f ms, %.2f times hear" % (" ".join(words), time, time / heard))
