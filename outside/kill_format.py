@@ -104,30 +104,34 @@ def sweep(folder, prepare, words, look):
         at += 1
 
 
-def main():
+def in_folder(work):
+    """Does the work in a folder of its own, and gives its status. Without strace it is skipped."""
     if shutil.which("strace") is None:
         print("strace is not installed: skipped")
         return 0
     with tempfile.TemporaryDirectory() as path:
-        folder = Folder(path)
-        first, second = image(5000, 0), image(700, 9)
-        folder.write("box.toml", BOX.encode())
-        folder.write("a.bin", first)
-        folder.write("b.bin", second)
+        return work(Folder(path))
 
-        def prepare():
-            if folder.run("blank", str(BLOCKS)) != (DONE, "blank %d\n" % BLOCKS):
-                sys.exit("blank failed")
-            # what is formatted anew held an image before
-            if folder.run("format", "b.bin")[0] != DONE:
-                sys.exit("format failed")
 
-        kills = sweep(folder, prepare, ("format", "a.bin"), lambda: look_after_format(folder, second))
-        if kills is None:
-            return 1
-        print("format: killed at each of its %d writes, and formatted again each time" % kills)
-        return 0
+def work(folder):
+    first, second = image(5000, 0), image(700, 9)
+    folder.write("box.toml", BOX.encode())
+    folder.write("a.bin", first)
+    folder.write("b.bin", second)
+
+    def prepare():
+        if folder.run("blank", str(BLOCKS)) != (DONE, "blank %d\n" % BLOCKS):
+            sys.exit("blank failed")
+        # what is formatted anew held an image before
+        if folder.run("format", "b.bin")[0] != DONE:
+            sys.exit("format failed")
+
+    kills = sweep(folder, prepare, ("format", "a.bin"), lambda: look_after_format(folder, second))
+    if kills is None:
+        return 1
+    print("format: killed at each of its %d writes, and formatted again each time" % kills)
+    return 0
 
 
 if __name__ == "__main__":
-    sys.exit(main())
+    sys.exit(in_folder(work))

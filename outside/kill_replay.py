@@ -10,11 +10,9 @@ The kills are made by strace, which stops the program as it enters the call. Wit
 
 usage: outside/kill_replay.py            exits with 0 where every run ended as it must
 """
-import shutil
 import sys
-import tempfile
 
-from kill_format import BOX, DONE, Folder, image, sweep
+from kill_format import BOX, DONE, image, in_folder, sweep
 
 NOTHING = 6
 BLOCKS = 6
@@ -36,46 +34,41 @@ modules = ["first.bin", "second.bin"]
 """
 
 
-def main():
-    if shutil.which("strace") is None:
-        print("strace is not installed: skipped")
-        return 0
-    with tempfile.TemporaryDirectory() as path:
-        folder = Folder(path)
-        old, first, second = image(700, 9), image(3000, 0), image(2500, 77)
-        new = first + second
-        for name, data in [("box.toml", BOX.encode()), ("plan.toml", PLAN.encode()), ("old.bin", old),
-                           ("first.bin", first), ("second.bin", second)]:
-            folder.write(name, data)
-        if folder.run("build")[0] != DONE:
-            sys.exit("build failed")
-        before = (DONE, old, "boot bank 0 number 1 software 1.1 bytes %d\n" % len(old))
-        after = (DONE, new, "boot bank 1 number 2 software 1.2 bytes %d\n" % len(new))
-        installed = (DONE, "installed group 2147483650 software 1.2 bytes %d\n" % len(new))
-        taken = {"old": 0, "new": 0}
+def work(folder):
+    old, first, second = image(700, 9), image(3000, 0), image(2500, 77)
+    new = first + second
+    for name, data in [("box.toml", BOX.encode()), ("plan.toml", PLAN.encode()), ("old.bin", old),
+                       ("first.bin", first), ("second.bin", second)]:
+        folder.write(name, data)
+    if folder.run("build")[0] != DONE:
+        sys.exit("build failed")
+    before = (DONE, old, "boot bank 0 number 1 software 1.1 bytes %d\n" % len(old))
+    after = (DONE, new, "boot bank 1 number 2 software 1.2 bytes %d\n" % len(new))
+    installed = (DONE, "installed group 2147483650 software 1.2 bytes %d\n" % len(new))
+    taken = {"old": 0, "new": 0}
 
-        def prepare():
-            if folder.run("blank", str(BLOCKS))[0] != DONE or folder.run("format", "old.bin")[0] != DONE:
-                sys.exit("blank or format failed")
+    def prepare():
+        if folder.run("blank", str(BLOCKS))[0] != DONE or folder.run("format", "old.bin")[0] != DONE:
+            sys.exit("blank or format failed")
 
-        def look():
-            booted = folder.boot()
-            if booted not in (before, after):
-                return "boot ended with %d, %d bytes and %r" % (booted[0], len(booted[1]), booted[2])
-            taken["new" if booted == after else "old"] += 1
-            again = folder.run("replay")
-            if again != (installed if booted == before else (NOTHING, "nothing level 6 group\n")):
-                return "the second replay ended with %d and %r" % again
-            if folder.boot() != after:
-                return "boot did not take the new image after the second replay"
-            return None
+    def look():
+        booted = folder.boot()
+        if booted not in (before, after):
+            return "boot ended with %d, %d bytes and %r" % (booted[0], len(booted[1]), booted[2])
+        taken["new" if booted == after else "old"] += 1
+        again = folder.run("replay")
+        if again != (installed if booted == before else (NOTHING, "nothing level 6 group\n")):
+            return "the second replay ended with %d and %r" % again
+        if folder.boot() != after:
+            return "boot did not take the new image after the second replay"
+        return None
 
-        kills = sweep(folder, prepare, ("replay",), look)
-        if kills is None:
-            return 1
-        print("replay: killed at each of its %d writes; boot took the old image %d times, the new one %d times" % (kills, taken["old"], taken["new"]))
-        return 0
+    kills = sweep(folder, prepare, ("replay",), look)
+    if kills is None:
+        return 1
+    print("replay: killed at each of its %d writes; boot took the old image %d times, the new one %d times" % (kills, taken["old"], taken["new"]))
+    return 0
 
 
 if __name__ == "__main__":
-    sys.exit(main())
+    sys.exit(in_folder(work))
