@@ -10,13 +10,14 @@ mkdir -p $out
 rustc -O -o $out/make_stream bench/make_stream.rs
 rustc -O -o $out/plain_hear bench/plain_hear.rs
 [ "$(stat -c %s $out/air.ts 2>/dev/null)" = $((megabytes * 1000000 / 188 * 188)) ] || $out/make_stream $out/air.ts "$megabytes"
-./ssu $out hear 256 > $out/ours.bin
+"${SSU:-./ssu}" $out hear 256 > $out/ours.bin
 $out/plain_hear $out/air.ts 256 > $out/plain.bin
 cmp $out/ours.bin $out/plain.bin
 python3 - "$out" <<'P'
 import os, subprocess, sys, time
 out = sys.argv[1]
-commands = {"ssu": ["crates/ssu/out/ssu", out, "hear", "256"], "plain Rust": [out + "/plain_hear", out + "/air.ts", "256"]}
+program = os.environ.get("SSU", "crates/ssu/out/ssu")
+commands = {"ssu": [program, out, "hear", "256"], "plain Rust": [out + "/plain_hear", out + "/air.ts", "256"]}
 best = {name: 1e9 for name in commands}
 for _ in range(10):
     for name, command in commands.items():

@@ -1,6 +1,6 @@
 #!/bin/bash
 # Times `ssu FOLDER load 256` beside `ssu FOLDER hear 256` on the same stream, best of twenty, page cache warm: a group of
-# 64 MiB in blocks of 4,066 bytes. `load` should go at no less than half the speed of `hear`. Both make a new file of about as
+# 64 MiB in blocks of 4,066 bytes. `load` should take at most 1.5 times as long as `hear`. Both make a new file of about as
 # many bytes: `load` the image, `hear` its sections by standard output. Beside it, `hear` with its output thrown away.
 # usage: bench/load.sh [MEGABYTES]
 set -e
@@ -9,7 +9,7 @@ megabytes=${1:-64}
 out=bench/out/load
 mkdir -p $out
 [ "$(stat -c %s $out/air.ts.image 2>/dev/null)" = $((megabytes * 1024 * 1024)) ] || python3 bench/make_carousel.py $out/air.ts "$megabytes"
-./ssu $out load 256
+"${SSU:-./ssu}" $out load 256
 cmp $out/group.bin $out/air.ts.image
 python3 - "$out" <<'P'
 import os, resource, subprocess, sys, time

@@ -1,7 +1,7 @@
 #!/usr/bin/env python3
 """Compares sections with what independent decoders read in them.
 
-The sections of SECTIONS are those of crates/si_table/src/outside.rt. Each is put into a transport stream, which
+The sections of SECTIONS are those of crates/format_tests/src/si_table_outside.rt. Each is put into a transport stream, which
 tshark (Wireshark) and libdvbpsi (by the small program tables.c) read; the fields that they print must be the
 ones stated here, and tshark must find each CRC right. A tool that is not installed is skipped, and said to be.
 
@@ -14,6 +14,8 @@ import shutil
 import subprocess
 import sys
 import tempfile
+
+from stream import crc
 
 HERE = os.path.dirname(os.path.abspath(__file__))
 LINKAGE = "4a0c 0001 0002 0003 09 04 001234 00"
@@ -33,17 +35,6 @@ SECTIONS = [
     ("TOT", 0x0014, "737000 c079124500 f00f 580d 474252 04 0000 c07c000000 0100 crc",
      ["mjd=49273", "time=12:45:00", "descriptor=88:13"]),
 ]
-
-
-def crc(data):
-    register = 0xFFFFFFFF
-    for byte in data:
-        for bit in range(7, -1, -1):
-            top = (register >> 31) ^ (byte >> bit & 1)
-            register = register << 1 & 0xFFFFFFFF
-            if top:
-                register ^= 0x04C11DB7
-    return register
 
 
 def bytes_of(text):

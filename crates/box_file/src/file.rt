@@ -4,8 +4,7 @@ ghost use Rattle.box_file.specs.declared.file.BoxFault.TheVariants.{Field};
 
 use si_desc::ServiceRef;
 use ssu_compat::{BoxId, Rule, SwId};
-use std::error::Error;
-use std::fmt;
+use thiserror::Error;
 use toml_fields::FieldName;
 
 /// A set-top box: what it is, what software it runs, and what it accepts.
@@ -24,27 +23,15 @@ pub struct BoxFile {
 }
 
 /// Why a text gave no box.
-#[derive(Clone, Copy, Debug)]
+#[derive(Clone, Copy, Debug, Error)]
 pub enum BoxFault {
     /// The first bad field; `text` where the file is no TOML or no UTF-8.
+    #[error("box.toml refused at {0}")]
     Field(FieldName),
     /// Memory ran out.
+    #[error("out of memory")]
     Memory,
 }
-
-impl fmt::Display for BoxFault {
-    fn fmt<W: fmt::Write>(&self, f: &mut fmt::Formatter<W>) -> fmt::Result {
-        match self {
-            BoxFault::Field(name) => {
-                let name = name.as_str();
-                write!(f, "box.toml refused at {name}")
-            }
-            BoxFault::Memory => write!(f, "out of memory"),
-        }
-    }
-}
-
-impl Error for BoxFault {}
 
 impl From<FieldName> for BoxFault {
     ghost from_gives = { λ name fault. fault ≡ Field name };

@@ -7,6 +7,3 @@ mod values;
 
 pub use file::{BoxFault, BoxFile};
 pub use toml_fields::FieldName;
-
-#[cfg(test)]
-mod tests;

@@ -15,11 +15,9 @@ use toml_fields::{DocumentFault, FieldName, Fields, field_name, read_document};
 impl BoxFile {
     /// The box that the text of a `box.toml` tells of. Keys that are not listed in it are passed over.
     ///
-    /// # Errors
-    ///
-    /// `Field` names the first bad field: one that is missing though not optional, or out of its
-    /// range. The order is `text` (no TOML or no UTF-8), `oui`, `model`, `version`, `rule`,
-    /// `software_model`, `software_version`, `manual`, `mac`, `serial`, `service`.
+    /// Answers `Field` with the name of the first bad field: one that is missing though not optional, or out of its
+    /// range; and `Memory` where memory ran out. The order is `text` (no TOML or no UTF-8), `oui`, `model`,
+    /// `version`, `rule`, `software_model`, `software_version`, `manual`, `mac`, `serial`, `service`.
     #[tactic(auto, unfolding(crate::specs::BoxText::box_of))]
     pub fn read(alloc: Global, text: &[u8]) -> Result<BoxFile, BoxFault>
         ensures file { IfOk result (λ b. box_of text.now ≡ Ok b) }

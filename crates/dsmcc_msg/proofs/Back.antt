@@ -2,8 +2,10 @@
 use Rattle.std.proofs.Common.{false, ℕ, ◌<◌, ◌≤◌, ◌^◌, List, [], ◌++◌, length, replicate, refl, arith}
 use Rattle.std.proofs.lemmas.Bool.{le-leb}
 use Rattle.std.proofs.lemmas.List.{length-append}
-use Rattle.wire.specs.Format.{IsPair, IsSized, SpellsEach}
-use Rattle.wire.specs.Number.{bytes_of, number, number1_put, number2_put, number4_put}
+use Rattle.wire.specs.Format.{SpellsEach}
+use Rattle.wire.proofs.Laws.{pair_put, sized_put}
+use Rattle.wire.specs.Number.{bytes_of, number}
+use Rattle.wire.proofs.Numbers.{number1_put, number2_put, number4_put}
 use Rattle.ssu_compat.specs.Compat.{EntryFields, compat}
 use Rattle.section_form.proofs.LongLaws.{Fits, long_spelled}
 use Rattle.dsmcc_msg.specs.Message.{message, protocol_discriminator, dsmcc_type}
@@ -11,25 +13,19 @@ use Rattle.dsmcc_msg.specs.Control.{GroupFields, group_entry, group_list, dsi_pa
 use Rattle.dsmcc_msg.specs.Block.{ddb_payload, ddb_id, ddb_message, ddb, DdbFields}
 use Rattle.dsmcc_msg.specs.Written.{DsiDraft, dsi_head, dsi_bytes, DiiDraft, dii_of, dii_head, dii_bytes, ddb_bytes, dii_message_bytes, ddb_head, ddb_payload_bytes, message_bytes, group_bytes, group_list_bytes, dsi_payload_bytes, module_bytes, dii_payload_bytes}
 
-pair : {F S : List ℕ → Type 0} (a b : List ℕ) → F a → S b → IsPair F S (a ++ b)
-pair a b f s = record { front = a; back = b; parts = refl; first = f; second = s }
-
-sized : {L : ℕ → List ℕ → Type 0} {I : List ℕ → Type 0} (a b : List ℕ) → L (length b) a → I b → IsSized L I (a ++ b)
-sized a b l i = record { front = a; inside = b; parts = refl; len = l; filled = i }
-
 pub message_put : (id transaction : ℕ) (payload : List ℕ) → id < 2 ^ 16 → transaction < 2 ^ 32 → length payload < 2 ^ 16 →
     message.Spells (record { id = id; transaction = transaction; payload = payload }) (message_bytes id transaction payload)
 unfolding message
 message_put id transaction payload i t p = (
   (tt, (tt, (id, (transaction, (tt, (0, payload)))))),
   refl,
-  pair (bytes_of 1 protocol_discriminator) _ (number1_put protocol_discriminator (omega arith)) (
-      pair (bytes_of 1 dsmcc_type) _ (number1_put dsmcc_type (omega arith)) (
-      pair (bytes_of 2 id) _ (number2_put id i) (
-      pair (bytes_of 4 transaction) _ (number4_put transaction t) (
-      pair (bytes_of 1 0xFF) _ (refl, refl) (
-      pair (bytes_of 1 0) _ (number1_put 0 (omega arith)) (
-      sized (bytes_of 2 (length payload)) payload (number2_put (length payload) p) (omega arith, refl))))))),
+  pair_put (bytes_of 1 protocol_discriminator) _ (number1_put protocol_discriminator (omega arith)) (
+      pair_put (bytes_of 1 dsmcc_type) _ (number1_put dsmcc_type (omega arith)) (
+      pair_put (bytes_of 2 id) _ (number2_put id i) (
+      pair_put (bytes_of 4 transaction) _ (number4_put transaction t) (
+      pair_put (bytes_of 1 0xFF) _ (refl, refl) (
+      pair_put (bytes_of 1 0) _ (number1_put 0 (omega arith)) (
+      sized_put (bytes_of 2 (length payload)) payload (number2_put (length payload) p) (omega arith, refl))))))),
 )
 
 pub group_put : (id size : ℕ) (entries : List EntryFields) (compat_bytes info : List ℕ) → id < 2 ^ 32 → size < 2 ^ 32 →
@@ -39,10 +35,10 @@ unfolding group_entry
 group_put id size entries compat_bytes info i s c n = (
   (id, (size, (entries, info))),
   refl,
-  pair (bytes_of 4 id) _ (number4_put id i) (
-      pair (bytes_of 4 size) _ (number4_put size s) (
-      pair compat_bytes _ c (
-      sized (bytes_of 2 (length info)) info (number2_put (length info) n) refl))),
+  pair_put (bytes_of 4 id) _ (number4_put id i) (
+      pair_put (bytes_of 4 size) _ (number4_put size s) (
+      pair_put compat_bytes _ c (
+      sized_put (bytes_of 2 (length info)) info (number2_put (length info) n) refl))),
 )
 
 pub group_list_put : (groups : List GroupFields) (bytes : List ℕ) → length groups < 2 ^ 16 → SpellsEach group_entry.Spells groups bytes →
@@ -51,9 +47,9 @@ unfolding group_list
 group_list_put groups bytes n each = (
   (length groups, (groups, [])),
   refl,
-  pair (bytes_of 2 (length groups)) _ (number2_put (length groups) n) (
+  pair_put (bytes_of 2 (length groups)) _ (number2_put (length groups) n) (
     refl,
-    pair bytes _ each (sized (bytes_of 2 0) [] (number2_put 0 (omega arith)) refl),
+    pair_put bytes _ each (sized_put (bytes_of 2 0) [] (number2_put 0 (omega arith)) refl),
   ),
 )
 
@@ -63,15 +59,15 @@ unfolding dsi_payload
 dsi_payload_put groups bytes n l each = (
   (tt, (tt, groups)),
   refl,
-  pair (replicate 20 0xFF) _ (refl, refl) (
-      pair (bytes_of 2 0) _ (number2_put 0 (omega arith)) (
-      sized (bytes_of 2 _) (group_list_bytes (length groups) bytes) (number2_put _ l) (group_list_put groups bytes n each))),
+  pair_put (replicate 20 0xFF) _ (refl, refl) (
+      pair_put (bytes_of 2 0) _ (number2_put 0 (omega arith)) (
+      sized_put (bytes_of 2 _) (group_list_bytes (length groups) bytes) (number2_put _ l) (group_list_put groups bytes n each))),
 )
 
 -- no entries are a length of 0
 no_entries : compat.Spells [] (bytes_of 2 0)
 unfolding compat
-no_entries = sized (bytes_of 2 0) [] (number2_put 0 (omega arith)) refl
+no_entries = sized_put (bytes_of 2 0) [] (number2_put 0 (omega arith)) refl
 
 pub module_put : (id size version : ℕ) (info : List ℕ) → id < 2 ^ 16 → size < 2 ^ 32 → version < 2 ^ 8 → length info < 2 ^ 8 →
     module_entry.Spells (record { id = id; size = size; version = version; info = info }) (module_bytes id size version info)
@@ -79,10 +75,10 @@ unfolding module_entry
 module_put id size version info i s v n = (
   (id, (size, (version, info))),
   refl,
-  pair (bytes_of 2 id) _ (number2_put id i) (
-      pair (bytes_of 4 size) _ (number4_put size s) (
-      pair (bytes_of 1 version) _ (number1_put version v) (
-      sized (bytes_of 1 (length info)) info (number1_put (length info) n) refl))),
+  pair_put (bytes_of 2 id) _ (number2_put id i) (
+      pair_put (bytes_of 4 size) _ (number4_put size s) (
+      pair_put (bytes_of 1 version) _ (number1_put version v) (
+      sized_put (bytes_of 1 (length info)) info (number1_put (length info) n) refl))),
 )
 
 pub dii_payload_put : (download block_size : ℕ) (modules : List ModuleFields) (bytes : List ℕ) → download < 2 ^ 32 → block_size < 2 ^ 16 →
@@ -92,13 +88,13 @@ unfolding dii_payload compat
 dii_payload_put download block_size modules bytes d b n each = (
   (download, (block_size, (tt, ([], (length modules, (modules, [])))))),
   refl,
-  pair (bytes_of 4 download) _ (number4_put download d) (
-      pair (bytes_of 2 block_size) _ (number2_put block_size b) (
-      pair (replicate 10 0) _ (refl, refl) (
-      pair (bytes_of 2 0) _ no_entries (
-      pair (bytes_of 2 (length modules)) _ (number2_put (length modules) n) (
+  pair_put (bytes_of 4 download) _ (number4_put download d) (
+      pair_put (bytes_of 2 block_size) _ (number2_put block_size b) (
+      pair_put (replicate 10 0) _ (refl, refl) (
+      pair_put (bytes_of 2 0) _ no_entries (
+      pair_put (bytes_of 2 (length modules)) _ (number2_put (length modules) n) (
         refl,
-        pair bytes _ each (sized (bytes_of 2 0) [] (number2_put 0 (omega arith)) refl),
+        pair_put bytes _ each (sized_put (bytes_of 2 0) [] (number2_put 0 (omega arith)) refl),
       ))))),
 )
 
@@ -109,10 +105,10 @@ unfolding ddb_payload
 ddb_payload_put module_id version number bytes m v n = (
   (module_id, (version, (tt, (number, bytes)))),
   refl,
-  pair (bytes_of 2 module_id) _ (number2_put module_id m) (
-      pair (bytes_of 1 version) _ (number1_put version v) (
-      pair (bytes_of 1 0xFF) _ (refl, refl) (
-      pair (bytes_of 2 number) bytes (number2_put number n) refl))),
+  pair_put (bytes_of 2 module_id) _ (number2_put module_id m) (
+      pair_put (bytes_of 1 version) _ (number1_put version v) (
+      pair_put (bytes_of 1 0xFF) _ (refl, refl) (
+      pair_put (bytes_of 2 number) bytes (number2_put number n) refl))),
 )
 
 -- what a DSI keeps that is being written

@@ -1,3 +1,5 @@
 pub mod Back
 pub mod Few
 pub mod Reading
+pub mod Exact
+pub mod RowLaws

@@ -3,7 +3,7 @@ use Rattle.std.proofs.Common.{◌≡◌, ℕ, List, Option, Some, None, refl, sy
 use Rattle.std.specs.Prelude.{IfSome}
 use Rattle.std.specs.Option.{option_map}
 use Rattle.wire.specs.Format.{Whole}
-use Rattle.wire.specs.Laws.{IsWhole}
+use Rattle.wire.specs.Exact.{IsWhole}
 
 pub read_exactly : {A B : Type 0} (w : Whole A) → IsWhole w → (view : B → A) (bs : List ℕ) (r : Option B)
     → IfSome r (λ d. w.Spells (view d) bs) → ((a : A) → w.Spells a bs → option_map view r ≡ Some a) → option_map view r ≡ w.of bs

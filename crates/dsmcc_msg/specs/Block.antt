@@ -2,7 +2,7 @@
 use Rattle.std.specs.Prelude.{ℕ, List}
 use Rattle.wire.specs.Format.{Whole, skip, ◌then◌, rest, whole_reads}
 use Rattle.wire.specs.Number.{number}
-use Rattle.dsmcc_msg.specs.Message.{MessageFields, message_of, section_of, block_table}
+use Rattle.dsmcc_msg.specs.Message.{MessageFields, message_of, in_table, block_table}
 
 pub record DdbFields : Type 0 where
   pub download : ℕ
@@ -46,4 +46,4 @@ unfoldable pub ddb_message : Whole DdbFields
 ddb_message = whole_reads ddb_fields (message_of ddb_id ddb_payload)
 
 unfoldable pub ddb : Whole DdbFields
-ddb = section_of block_table ddb_message
+ddb = in_table block_table ddb_message

@@ -5,7 +5,7 @@ use Rattle.wire.specs.Format.{Front, Whole, reads, fixed, skip, ◌&◌, ◌then
 use Rattle.wire.specs.Number.{number}
 use Rattle.ssu_compat.specs.Compat.{compat, EntryFields}
 use Rattle.wire.specs.Inside.{noted}
-use Rattle.dsmcc_msg.specs.Message.{MessageFields, message_of, section_of, control_table}
+use Rattle.dsmcc_msg.specs.Message.{MessageFields, message_of, in_table, control_table}
 
 -- ---- DSI
 
@@ -59,7 +59,7 @@ unfoldable pub dsi_message : Whole DsiFields
 dsi_message = whole_reads dsi_fields (message_of dsi_id dsi_payload)
 
 unfoldable pub dsi : Whole DsiFields
-dsi = section_of control_table dsi_message
+dsi = in_table control_table dsi_message
 
 -- ---- DII
 
@@ -131,4 +131,4 @@ unfoldable pub dii_message : Whole DiiFields
 dii_message = whole_reads dii_fields (noted (checked fits_a_section (message_of dii_id dii_payload)))
 
 unfoldable pub dii : Whole DiiFields
-dii = section_of control_table dii_message
+dii = in_table control_table dii_message

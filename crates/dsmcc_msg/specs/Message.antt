@@ -2,7 +2,7 @@
 use Rattle.std.specs.Prelude.{ℕ, Bool, List, ◌==◌}
 use Rattle.wire.specs.Format.{Front, Whole, reads, fixed, skip, ◌&◌, ◌with◌, sized, after, rest, only, whole_such, whole_reads}
 use Rattle.wire.specs.Number.{number}
-use Rattle.section_form.specs.Long.{long_form, LongFields}
+use Rattle.section_form.specs.Long.{LongFields, has_table, section_of}
 use Rattle.wire.specs.Inside.{inside}
 
 -- What every message has. A data block has its downloadId where the others have their transactionId.
@@ -41,19 +41,13 @@ payload_of m = m.payload
 abbrev pub message_of : {A : Type 0} → ℕ → Whole A → Whole (MessageFields × A)
 message_of id payload = inside (whole_such (has_id id) (only message)) payload_of payload
 
-abbrev pub has_table : ℕ → LongFields → Bool
-has_table table s = s.table == table
-
-abbrev pub body_of : LongFields → List ℕ
-body_of s = s.body
-
 abbrev pub second : {A : Type 0} → LongFields × A → A
 second x = x.1
 
 -- A section in the long form with this table_id, and what its body is. The extension, the version and the section
 -- numbers are free.
-abbrev pub section_of : {A : Type 0} → ℕ → Whole A → Whole A
-section_of table body = whole_reads second (inside (whole_such (has_table table) long_form) body_of body)
+abbrev pub in_table : {A : Type 0} → ℕ → Whole A → Whole A
+in_table table body = whole_reads second (section_of (has_table table) body)
 
 -- table_id of the control messages DSI and DII, and of the data blocks
 abbrev pub control_table : ℕ

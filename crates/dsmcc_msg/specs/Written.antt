@@ -3,7 +3,7 @@
 use Rattle.std.specs.Prelude.{ℕ, ◌+◌, ◌%◌, ◌^◌, min, false, List, ◌++◌, length, replicate}
 use Rattle.wire.specs.Number.{bytes_of}
 use Rattle.section_form.specs.Long.{LongFields}
-use Rattle.section_form.specs.Written.{long_bytes}
+use Rattle.section_form.specs.Written.{long_bytes, only_section}
 use Rattle.dsmcc_msg.specs.Message.{protocol_discriminator, dsmcc_type, control_table, block_table}
 use Rattle.dsmcc_msg.specs.Control.{GroupFields, ModuleFields, DiiFields, dsi_id, dii_id}
 use Rattle.dsmcc_msg.specs.Block.{DdbFields, ddb_id}
@@ -21,14 +21,8 @@ message_bytes id transaction payload =
 
 -- A control message goes with the low 16 bits of its transactionId as extension, in version 0 and section 0 of 0.
 abbrev pub control_head : ℕ → ℕ → List ℕ → LongFields
-control_head id transaction payload = record {
-  table = control_table;
-  extension = transaction % 2 ^ 16;
-  version = 0;
-  number = 0;
-  last = 0;
-  body = message_bytes id transaction payload;
-}
+control_head id transaction payload =
+    only_section control_table (transaction % 2 ^ 16) 0 (message_bytes id transaction payload)
 
 -- ---- DSI
 

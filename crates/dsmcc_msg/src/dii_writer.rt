@@ -89,7 +89,8 @@ fn payload_bytes(
 }
 
 impl DiiWriter {
-    /// A DII without modules. Its section goes with the low 16 bits of the transaction id as extension.
+    /// A DII without modules. Its section goes with the low 16 bits of the transaction id as extension. `NoMemory` is
+    /// the one refusal.
     pub fn new(
         alloc: Global,
         transaction: u32,
@@ -114,7 +115,8 @@ impl DiiWriter {
         })
     }
 
-    /// Adds a module.
+    /// Adds a module, whose info has at most 255 bytes. `TooLong` comes exactly where section_length would pass 4,093,
+    /// `Memory` where memory runs out; the writer is then unchanged.
     pub fn module(&mut self, id: u16, size: u32, version: u8, info: &[u8]) -> Result<(), MakeFault>
         requires { length info.now ≤ 255 }
         ensures ok { OnOk result (self.new ≡ record self.old {
@@ -134,7 +136,7 @@ impl DiiWriter {
         Ok(())
     }
 
-    /// The section. Want of memory hands the writer back.
+    /// The section. `NoMemory` is the one refusal, and hands the writer back as it was.
     pub fn finish(self) -> Result<Vec<u8>, (DiiWriter, NoMemory)>
         ensures made { IfOk result (λ s. s.items ≡ dii_bytes self) }
         // It is read back with the fields written.

@@ -80,7 +80,8 @@ fn payload_bytes(alloc: Global, count: u16, groups: &[u8]) -> Result<Vec<u8>, No
 }
 
 impl DsiWriter {
-    /// A DSI without groups. Its section goes with the low 16 bits of the transaction id as extension.
+    /// A DSI without groups. Its section goes with the low 16 bits of the transaction id as extension. `NoMemory` is
+    /// the one refusal.
     pub fn new(alloc: Global, transaction: u32) -> Result<DsiWriter, NoMemory>
         ensures { IfOk result (λ w. w ≡ record { transaction = transaction; groups = []; bytes = [] }) }
     {
@@ -92,7 +93,8 @@ impl DsiWriter {
         })
     }
 
-    /// Adds a group. `compat` is a compatibility descriptor, as `ssu_compat::write` makes it.
+    /// Adds a group. `compat` is a compatibility descriptor, as `ssu_compat::write` makes it. `TooLong` comes exactly where
+    /// section_length would pass 4,093, `Memory` where memory runs out; the writer is then unchanged.
     pub fn group(&mut self, id: u32, size: u32, compat: &[u8], info: &[u8]) -> Result<(), MakeFault>
         requires { (entries : List EntryFields) × compat_format.Spells entries compat.now }
         ensures ok { (entries : List EntryFields) → compat_format.Spells entries compat.now
@@ -113,7 +115,7 @@ impl DsiWriter {
         Ok(())
     }
 
-    /// The section. Want of memory hands the writer back.
+    /// The section. `NoMemory` is the one refusal, and hands the writer back as it was.
     pub fn finish(self) -> Result<Vec<u8>, (DsiWriter, NoMemory)>
         ensures made { IfOk result (λ s. s.items ≡ dsi_bytes self) }
         // It is read back with the fields written.

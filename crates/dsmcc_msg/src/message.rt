@@ -3,11 +3,11 @@
 ghost use Rattle.std.specs.Prelude.{◌≡◌};
 ghost use Rattle.std.specs.Option.{option_map};
 ghost use Rattle.wire.specs.Format.{only, whole_such};
-ghost use Rattle.wire.specs.Laws.{IsPrefixFree};
+ghost use Rattle.wire.specs.Exact.{IsPrefixFree};
 ghost use Rattle.wire.specs.Read.{Reads};
-ghost use Rattle.section_form.specs.Long.{long_form};
+ghost use Rattle.section_form.specs.Long.{body_of, has_table, long_form};
 ghost use Rattle.section_form.specs.Section.{IsRight};
-ghost use Rattle.dsmcc_msg.specs.Message.{message, has_id, has_table, body_of};
+ghost use Rattle.dsmcc_msg.specs.Message.{message, has_id};
 
 use section_form::{long, long_of_right};
 use wire::{raw_at, u8_at, u16_at, u32_at};
@@ -39,7 +39,8 @@ pub(crate) struct Message<'a> {
 /// The message at the front, and the bytes behind it.
 #[tactic(auto, unfolding(crate::specs::Message::message))]
 fn message_at(bytes: &[u8]) -> Option<(Message<'_>, &[u8])>
-    ensures { Reads (λ x. (record { id = x.0.id; transaction = x.0.transaction; payload = x.0.payload.now }, x.1.now)) result (message.at bytes.now) }
+    ensures { Reads (λ x. (record { id = x.0.id; transaction = x.0.transaction; payload = x.0.payload.now }, x.1.now))
+        result (message.at bytes.now) }
 {
     let (discriminator, rest) = u8_at(bytes)?;
     if discriminator != PROTOCOL_DISCRIMINATOR {
@@ -68,7 +69,8 @@ fn message_at(bytes: &[u8]) -> Option<(Message<'_>, &[u8])>
 
 /// The message that fills the bytes, if it has this id.
 pub(crate) fn message_with(bytes: &[u8], id: u16) -> Option<Message<'_>>
-    ensures { Reads (λ x. record { id = x.id; transaction = x.transaction; payload = x.payload.now }) result ((whole_such (has_id id) (only message)).of bytes.now) }
+    ensures { Reads (λ x. record { id = x.id; transaction = x.transaction; payload = x.payload.now }) result
+        ((whole_such (has_id id) (only message)).of bytes.now) }
 {
     let (message, behind) = message_at(bytes)?;
     if !behind.is_empty() {

@@ -5,7 +5,7 @@ ghost use Rattle.section_form.specs.Written.{long_bytes};
 ghost use Rattle.dsmcc_msg.specs.Written.{message_bytes, control_head};
 
 use crate::message::{CONTROL_TABLE, DSMCC_TYPE, PROTOCOL_DISCRIMINATOR};
-use section_form::{LongForm, long_section};
+use section_form::table_section;
 use ssu_io::NoMemory;
 use std::alloc::Global;
 use wire::{put_u8, put_u16, put_u32};
@@ -55,13 +55,6 @@ pub(crate) fn control_section(
     ensures { IfOk result (λ s. s.items ≡ long_bytes false (control_head id transaction payload.now)) }
 {
     let body = message(alloc, id, transaction, payload)?;
-    let head = LongForm {
-        table: CONTROL_TABLE,
-        extension: (transaction % 65536) as u16,
-        version: 0,
-        number: 0,
-        last: 0,
-        body: &body,
-    };
-    long_section(alloc, head, false)
+    let extension = (transaction % 65536) as u16;
+    table_section(alloc, CONTROL_TABLE, extension, 0, &body, false)
 }

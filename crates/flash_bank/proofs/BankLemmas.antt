@@ -1,9 +1,10 @@
 -- What the calls of a bank leave of contents that it fits.
 use Rattle.std.specs.Prelude.{true}
-use Rattle.std.proofs.Common.{◌≡◌, ℕ, ◌+◌, ◌-◌, ◌≤◌, List, length, refl, sym, ◌∙◌, ap, subst, arith}
+use Rattle.std.proofs.Common.{◌≡◌, ℕ, ◌+◌, ◌-◌, ◌≤◌, List, length, get_or, refl, sym, ◌∙◌, ap, subst, arith}
 use Rattle.flash_dev.specs.Changes.{Changes, IsBlank, IsErased, IsProgrammed, IsTornProgram}
 use Rattle.flash_bank.specs.Bank.{Fits, LeavesBegun, LeavesCommitted, LeavesFilled, block_of, current_of, geometry_of, is_begun, spare_bank, spare_record}
-use Rattle.flash_bank.specs.Layout.{Geometry, bank_len, bank_place}
+use Rattle.flash_bank.specs.Layout.{Geometry, bank_len, bank_place, record_place}
+use Rattle.flash_bank.specs.Leaving.{SameOutsideSpare}
 use Rattle.flash_bank.specs.Record.{IsInRange, record_of, written}
 use Rattle.flash_bank.specs.Runs.{IsOutside}
 use Rattle.flash_bank.specs.Sound.{IsSound, IsCurrent, record_in, number_in}
@@ -12,7 +13,7 @@ use Rattle.flash_bank.specs.declared.bank.Bank.{Bank}
 use Rattle.flash_bank.specs.declared.record.Record.{Record}
 use Rattle.flash_bank.proofs.PairsLemmas.{whole_byte, whole-written}
 use Rattle.flash_bank.proofs.RunsLemmas.{programmed_torn}
-use Rattle.flash_bank.proofs.SoundLemmas.{Stays, current_still, keeps}
+use Rattle.flash_bank.proofs.SoundLemmas.{Stays, current_still, keeps, one_current}
 use Rattle.flash_bank.proofs.SpareLemmas.{Adds, cuts_keep, cuts_outside, cuts_raised, cuts_size, done_adds, erased_block, erased_stays, filled_blank, filled_keeps, filled_stays, torn_keeps}
 
 module _ (b : Bank) (x : List ℕ) (fits : Fits b x) where
@@ -35,18 +36,33 @@ module _ (b : Bank) (x : List ℕ) (fits : Fits b x) where
   pub still_head : (y : List ℕ) (size : length y ≡ length x) → Stays g x y size fits.sound r → record_in g y r ≡ current_of b
   still_head y size stays = ap record_of stays.head ∙ fits.head
 
+  -- what lies outside the spare parts of the current record lies outside those of the bank
+  spare_record_here : (block k : ℕ) → IsCurrent g x block → IsOutside (record_place g (1 - block)) g.block_len k → IsOutside (spare_record b) g.block_len k
+  spare_record_here block k current out = subst (λ (q : ℕ). IsOutside (record_place g (1 - q)) g.block_len k) (one_current g x block r current fits.current) out
+
+  spare_bank_here : (block k : ℕ) → IsCurrent g x block → IsOutside (bank_place g (1 - (record_in g x block).bank)) (bank_len g) k → IsOutside (spare_bank b) (bank_len g) k
+  spare_bank_here block k current out =
+      subst (λ (h : Record). IsOutside (bank_place g (1 - h.bank)) (bank_len g) k) (ap (record_in g x) (one_current g x block r current fits.current) ∙ fits.head) out
+
+  pub outside_spare : (y : List ℕ) → length y ≡ length x
+      → ((k : ℕ) → IsOutside (spare_record b) g.block_len k → IsOutside (spare_bank b) (bank_len g) k → get_or y k 0 ≡ get_or x k 0) → SameOutsideSpare g x y
+  outside_spare y size same = record {
+    size = size;
+    same = λ block k current out. same k (spare_record_here block k current out.0) (spare_bank_here block k current out.1);
+  }
+
   cuts_at : (y : List ℕ) → CutsSpare g (1 - r) (1 - (current_of b).bank) x y → CutsSpare g (1 - r) (1 - r) x y
   cuts_at y cuts = subst (λ (k : ℕ). CutsSpare g (1 - r) k x y) other cuts
 
-  pub leaves_begun : (y : List ℕ) → CutsSpare g (1 - r) (1 - (current_of b).bank) x y → LeavesBegun b x y
-  leaves_begun y cuts = record {
-    keeps = cuts_keep g b.limits r b.block_is x fits.sound fits.current y (cuts_at y cuts);
-    outside = record {
-      size = cuts_size g b.limits r b.block_is x fits.sound fits.current y (cuts_at y cuts);
-      same = λ k out_record out_bank. cuts_outside g b.limits r b.block_is x fits.sound fits.current y (cuts_at y cuts) k out_record
-          (subst (λ (q : ℕ). IsOutside (bank_place g q) (bank_len g) k) other out_bank);
+  pub leaves_begun : ((k : ℕ) → get_or x k 0 ≤ 255) → (y : List ℕ) → CutsSpare g (1 - r) (1 - (current_of b).bank) x y → LeavesBegun g x y
+  leaves_begun are_bytes y cuts = record {
+    keeps = record {
+      keeps = cuts_keep g b.limits r b.block_is x fits.sound fits.current y (cuts_at y cuts);
+      outside = outside_spare y (cuts_size g b.limits r b.block_is x fits.sound fits.current y (cuts_at y cuts))
+          (λ k out_record out_bank. cuts_outside g b.limits r b.block_is x fits.sound fits.current y (cuts_at y cuts) k out_record
+          (subst (λ (q : ℕ). IsOutside (bank_place g q) (bank_len g) k) other out_bank));
     };
-    raised = cuts_raised g b.limits r b.block_is x fits.sound fits.current y (cuts_at y cuts);
+    raised = cuts_raised g b.limits r b.block_is x fits.sound fits.current are_bytes y (cuts_at y cuts);
   }
 
   pub erases_at : (y : List ℕ) → ErasesThen g (1 - r) (1 - (current_of b).bank) IsErased x y → ErasesThen g (1 - r) (1 - r) IsErased x y

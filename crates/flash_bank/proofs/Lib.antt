@@ -2,6 +2,7 @@ pub mod BankLemmas
 pub mod BootLemmas
 pub mod FindLemmas
 pub mod FormatLemmas
+pub mod LeavingLemmas
 pub mod PairsLemmas
 pub mod PartLemmas
 pub mod Places

@@ -77,6 +77,7 @@ module _ (g : Geometry) (x y : List ℕ) (size : length y ≡ length x) (sound :
   pub keeps : (r : ℕ) → Stays r → Keeps g x y
   keeps r s = record {
     sound = sound_still r s;
+    current = λ q is. subst (IsCurrent g y) (sym (one_current g x q r is s.current)) (current_still r s);
     boot = λ b from. boot_still b from;
     prev = λ b from. prev_before b from;
   }
@@ -100,12 +101,13 @@ module _ (g : Geometry) (x y : List ℕ) (size : length y ≡ length x) (sound :
 
 -- contents keep what boot takes of them
 pub keeps_same : (g : Geometry) (x : List ℕ) → IsSound g x → Keeps g x x
-keeps_same g x sound = record { sound = sound; boot = λ b from. from; prev = λ b from. from }
+keeps_same g x sound = record { sound = sound; current = λ r is. is; boot = λ b from. from; prev = λ b from. from }
 
 -- and one change after another does
 pub keeps_joined : (g : Geometry) (x y z : List ℕ) → Keeps g x y → Keeps g y z → Keeps g x z
 keeps_joined g x y z first second = record {
   sound = second.sound;
+  current = λ r is. second.current r (first.current r is);
   boot = λ b from. second.boot b (first.boot b from);
   prev = λ b from. first.prev b (second.prev b from);
 }

@@ -7,8 +7,8 @@ use Rattle.flash_bank.specs.Layout.{Geometry, Allows, HoldsRecord, IsInLimits, b
 use Rattle.flash_bank.specs.Pairs.{part, AreWhole, NoneBelow}
 use Rattle.flash_bank.specs.Record.{IsInRange, IsValid, record_of, written}
 use Rattle.flash_bank.specs.Runs.{IsOutside, IsRaised}
-use Rattle.flash_bank.specs.Sound.{IsSound, IsCurrent, Boot, BootOf, PrevOf, Keeps, KeepsBoth, Commits, boot_in, image_of, number_in, record_in}
-use Rattle.flash_bank.specs.Spare.{CutsSpare, ErasesThen, IsNotBelow}
+use Rattle.flash_bank.specs.Sound.{IsSound, IsCurrent, Boot, BootOf, PrevOf, Keeps, KeepsBoth, Commits, boot_in, boot_of, image_of, number_in, record_in}
+use Rattle.flash_bank.specs.Spare.{CutsSpare, ErasesThen}
 use Rattle.flash_bank.specs.declared.record.Record.{Record}
 use Rattle.flash_bank.proofs.PairsLemmas.{record_of-written, valid-written, whole-written}
 use Rattle.flash_bank.proofs.PartLemmas.{get_or-part, length-part, none_below_above, whole_is, whole_none_below, whole_or_not}
@@ -64,17 +64,17 @@ module _ (g : Geometry) (limits : IsInLimits g) (r : ℕ) (is_block : r < 2) whe
     above_part y v above k lt = omega (arith, above k (omega arith), get_or-part y (record_place g (1 - r)) 64 k (omega arith))
 
     -- while the spare record block is torn by an erase
-    pub raised_stays : (y : List ℕ) (changes : Changes (record_place g (1 - r)) g.block_len IsNotBelow x y) → Stays g x y changes.size sound r
+    pub raised_stays : (y : List ℕ) (changes : Changes (record_place g (1 - r)) g.block_len IsRaised x y) → Stays g x y changes.size sound r
     raised_stays y changes =
         let above : (k : ℕ) → k < 64 → get_or (record_bytes g x (1 - r)) k 0 ≤ get_or y (record_place g (1 - r) + k) 0 =
         λ k lt. omega (arith, changes.inside k (omega (arith, limits.least_len)), get_or-part x (record_place g (1 - r)) 64 k lt) in
         record {
           current = current;
-          head = part_apart _ _ _ _ IsNotBelow x y (records_apart g limits r is_block) changes;
-          bank = own_bank y (part_apart _ _ _ _ IsNotBelow x y (bank_from_record g limits r (1 - r) spare_lt) changes);
+          head = part_apart _ _ _ _ IsRaised x y (records_apart g limits r is_block) changes;
+          bank = own_bank y (part_apart _ _ _ _ IsRaised x y (bank_from_record g limits r (1 - r) spare_lt) changes);
           settled = none_below_above _ _ 32 spare_settled (above_part y _ above);
           other = λ valid. whole_is _ _ 32 (record_size x refl) (record_size y changes.size) spare_settled (above_part y _ above) valid.whole;
-          other_bank = λ valid before. other_bank y before (part_apart _ _ _ _ IsNotBelow x y (bank_from_record g limits (1 - r) (1 - r) spare_lt) changes);
+          other_bank = λ valid before. other_bank y before (part_apart _ _ _ _ IsRaised x y (bank_from_record g limits (1 - r) (1 - r) spare_lt) changes);
         }
 
     -- where the spare record's place is erased and all of the current record and its bank is as before
@@ -133,20 +133,20 @@ module _ (g : Geometry) (limits : IsInLimits g) (r : ℕ) (is_block : r < 2) whe
         pick (inr le) (inl lt) = inr (le, lt)
         pick (inr le) (inr past) = inl (inr past)
 
-    same_raised : (a b : ℕ) → b ≡ a → (a ≤ b) ⊎ (b ≡ 255)
-    same_raised a b is = inl (omega arith)
+    same_raised : (a b : ℕ) → b ≡ a → a ≤ b
+    same_raised a b is = omega arith
 
     -- no byte is below what it was
-    pub cuts_raised : (y : List ℕ) → CutsSpare g (1 - r) (1 - r) x y → (k : ℕ) → IsRaised k (get_or x k 0) (get_or y k 0)
-    cuts_raised y (inl changes) k = pick (in_or_out (record_place g (1 - r)) g.block_len k)
+    pub cuts_raised : ((k : ℕ) → get_or x k 0 ≤ 255) → (y : List ℕ) → CutsSpare g (1 - r) (1 - r) x y → (k : ℕ) → IsRaised k (get_or x k 0) (get_or y k 0)
+    cuts_raised are_bytes y (inl changes) k = pick (in_or_out (record_place g (1 - r)) g.block_len k)
       where
         pick : IsOutside (record_place g (1 - r)) g.block_len k ⊎ ((record_place g (1 - r) ≤ k) × (k < record_place g (1 - r) + g.block_len)) → IsRaised k (get_or x k 0) (get_or y k 0)
         pick (inl (inl front)) = same_raised _ _ (changes.before k front)
         pick (inl (inr past)) = same_raised _ _ (changes.after k past)
         pick (inr (le, lt)) =
             let spot : record_place g (1 - r) + (k - record_place g (1 - r)) ≡ k = omega arith in
-            inl (subst (λ (p : ℕ). get_or x p 0 ≤ get_or y p 0) spot (changes.inside (k - record_place g (1 - r)) (omega arith)))
-    cuts_raised y (inr erases) k = pick (in_or_out (bank_place g (1 - r)) (bank_len g) k) (in_or_out (record_place g (1 - r)) g.block_len k)
+            subst (λ (p : ℕ). get_or x p 0 ≤ get_or y p 0) spot (changes.inside (k - record_place g (1 - r)) (omega arith))
+    cuts_raised are_bytes y (inr erases) k = pick (in_or_out (bank_place g (1 - r)) (bank_len g) k) (in_or_out (record_place g (1 - r)) g.block_len k)
       where
         in_record : (record_place g (1 - r) ≤ k) × (k < record_place g (1 - r) + g.block_len) → get_or erases.between k 0 ≡ 255
         in_record (le, lt) =
@@ -168,12 +168,12 @@ module _ (g : Geometry) (limits : IsInLimits g) (r : ℕ) (is_block : r < 2) whe
         pick : IsOutside (bank_place g (1 - r)) (bank_len g) k ⊎ ((bank_place g (1 - r) ≤ k) × (k < bank_place g (1 - r) + bank_len g))
             → IsOutside (record_place g (1 - r)) g.block_len k ⊎ ((record_place g (1 - r) ≤ k) × (k < record_place g (1 - r) + g.block_len)) → IsRaised k (get_or x k 0) (get_or y k 0)
         pick (inl outside) (inl out) = same_raised _ _ (out_bank outside ∙ out_record out)
-        pick (inl outside) (inr within) = inr (out_bank outside ∙ in_record within)
+        pick (inl outside) (inr within) = omega (arith, out_bank outside, in_record within, are_bytes k)
         pick (inr (le, lt)) _ =
             let spot : bank_place g (1 - r) + (k - bank_place g (1 - r)) ≡ k = omega arith in
             let here : IsRaised (k - bank_place g (1 - r)) (get_or erases.between k 0) (get_or y k 0) =
             subst (λ (p : ℕ). IsRaised (k - bank_place g (1 - r)) (get_or erases.between p 0) (get_or y p 0)) spot (erases.bank_blocks.inside (k - bank_place g (1 - r)) (omega arith)) in
-            subst (λ (a : ℕ). (a ≤ get_or y k 0) ⊎ (get_or y k 0 ≡ 255)) (out_record (apart (le, lt) (bank_from_record g limits (1 - r) (1 - r) spare_lt))) here
+            subst (λ (a : ℕ). a ≤ get_or y k 0) (out_record (apart (le, lt) (bank_from_record g limits (1 - r) (1 - r) spare_lt))) here
 
     -- once they are done, the spare record block is erased
     pub erased_block : (y : List ℕ) → ErasesThen g (1 - r) (1 - r) IsErased x y → IsBlank y (record_place g (1 - r)) g.block_len
@@ -254,7 +254,7 @@ module _ (g : Geometry) (new : Record) (x y : List ℕ) where
       let same = subst (λ (k : ℕ). part y (bank_place g k) (bank_len g) ≡ part x (bank_place g k) (bank_len g)) (sym a.current.valid.allowed.bank_is) a.bank in
       same_boot g x y r a.current.valid a.head same
 
-  adds_new_boot : (r : ℕ) → Adds g r new x y → record { head = new; image = image_of g x new } ≡ boot_in g y (1 - r)
+  adds_new_boot : (r : ℕ) → Adds g r new x y → boot_of g x new ≡ boot_in g y (1 - r)
   adds_new_boot r a =
       let head = adds_new r a in
       let same = subst (λ (k : ℕ). part y (bank_place g k) (bank_len g) ≡ part x (bank_place g k) (bank_len g)) (sym a.bank_is) a.new_bank in
@@ -292,7 +292,7 @@ module _ (g : Geometry) (new : Record) (x y : List ℕ) where
   back r lt = omega arith
 
   -- boot takes the new record with its image, and what it took before is what it took of x
-  pub commits : (r : ℕ) → Adds g r new x y → Commits g new x y
+  pub commits : (r : ℕ) → Adds g r new x y → Commits g (boot_of g x new) x y
   commits r a = record {
     sound = adds_sound r a;
     boot = record { block = 1 - r; current = adds_current r a; is = adds_new_boot r a };
@@ -358,7 +358,7 @@ module _ (g : Geometry) (limits : IsInLimits g) (r : ℕ) (is_block : r < 2) (ne
       (λ k lt. let below : k < 64 = omega (arith, spare_size y changes.size) in get_or-part y (record_place g (1 - r)) 64 k below ∙ changes.inside k below))
 
   -- while it is programmed on erased bytes
-  pub torn_keeps : (y : List ℕ) → Changes (record_place g (1 - r)) 64 (IsTornProgram (written new)) x y → Keeps g x y ⊎ Commits g new x y
+  pub torn_keeps : (y : List ℕ) → Changes (record_place g (1 - r)) 64 (IsTornProgram (written new)) x y → Keeps g x y ⊎ Commits g (boot_of g x new) x y
   torn_keeps y changes =
       ⊎_elim (λ whole. inr (commits g new x y r (adds _ y changes (is_new whole)))) (λ broken. inl (keeps g x y changes.size sound r (stays broken)))
       (whole_or_not (record_bytes g y (1 - r)) 32)

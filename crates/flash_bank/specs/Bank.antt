@@ -1,14 +1,14 @@
 -- What is seen of an open bank, and what it asks of the flash that it is lent.
 use Rattle.std.specs.Prelude.{◌≡◌, ◌⊎◌, ℕ, ◌+◌, ◌-◌, Bool, true, false, List, length, slice_index}
 use Rattle.flash_dev.specs.Changes.{Changes, IsBlank, IsTornProgram}
-use Rattle.flash_bank.specs.Layout.{Geometry, bank_len, bank_place, record_place}
+use Rattle.flash_bank.specs.Layout.{Geometry, bank_place, len_under, record_place}
+use Rattle.flash_bank.specs.Leaving.{KeepsBoot}
 use Rattle.flash_bank.specs.Record.{written}
-use Rattle.flash_bank.specs.Runs.{IsOutside, IsRaised}
+use Rattle.flash_bank.specs.Runs.{IsRaised}
 use Rattle.flash_bank.specs.Shape.{geometry}
-use Rattle.flash_bank.specs.Sound.{IsSound, IsCurrent, Commits, Keeps, KeepsBoth, record_in}
+use Rattle.flash_bank.specs.Sound.{IsSound, IsCurrent, Commits, Keeps, KeepsBoth, boot_of, record_in}
 use Rattle.flash_bank.specs.declared.bank.Bank.{Bank}
 use Rattle.flash_bank.specs.declared.record.Record.{Record}
-use Rattle.ssu_compat.specs.declared.rule.SwId.{SwId}
 
 -- the number and the length of the blocks that it was opened with
 abbrev pub geometry_of : Bank → Geometry
@@ -28,6 +28,10 @@ is_begun bank = bank.begun
 -- a call failed, and no further one is allowed
 abbrev pub is_spent : Bank → Bool
 is_spent bank = bank.spent
+
+-- the length of its banks
+abbrev pub len_of : Bank → ℕ
+len_of bank = len_under (geometry_of bank) (current_of bank)
 
 -- where the spare record block begins, and the spare bank
 abbrev pub spare_record : Bank → ℕ
@@ -52,27 +56,10 @@ pub record IsLent {F : Type 0} (tells : Type 0) (contents : F → List ℕ) (blo
   pub block_size : block_len flash ≡ (geometry_of bank).block_len
   pub fits : tells → Fits bank (contents flash)
 
--- the record that is committed after the current one
-abbrev pub next_record : Bank → ℕ → SwId → ℕ → Record
-next_record bank len software group = record {
-  number = (current_of bank).number + 1;
-  bank = 1 - (current_of bank).bank;
-  length = len;
-  software = software;
-  group = group;
-}
-
--- y is x but in the spare record block and the spare bank
-pub record SameOutsideSpare (bank : Bank) (x y : List ℕ) : Type 0 where
-  pub size : length y ≡ length x
-  pub same : (k : ℕ) → IsOutside (spare_record bank) (geometry_of bank).block_len k
-      → IsOutside (spare_bank bank) (bank_len (geometry_of bank)) k → slice_index y k ≡ slice_index x k
-
--- What `begin` may leave of x: boot takes what it took, only spare record block and spare bank may differ, and no
+-- What `begin` may leave of x: boot takes what it took, only the spare record block and the spare bank may differ, and no
 -- byte is below what it was.
-pub record LeavesBegun (bank : Bank) (x y : List ℕ) : Type 0 where
-  pub keeps : Keeps (geometry_of bank) x y
-  pub outside : SameOutsideSpare bank x y
+pub record LeavesBegun (g : Geometry) (x y : List ℕ) : Type 0 where
+  pub keeps : KeepsBoot g x y
   pub raised : (k : ℕ) → IsRaised k (slice_index x k) (slice_index y k)
 
 -- What `fill` may leave of x: boot takes what it took, also before, and only the range may differ, where no byte
@@ -81,8 +68,8 @@ pub record LeavesFilled (bank : Bank) (at : ℕ) (bytes x y : List ℕ) : Type 0
   pub keeps : KeepsBoth (geometry_of bank) x y
   pub changes : Changes (spare_bank bank + at) (length bytes) (IsTornProgram bytes) x y
 
--- What `commit` may leave of x: boot takes what it took, or the new record; and only the spare record's place may
--- differ, where no byte is below the one to be written.
+-- What `commit` may leave of x: boot takes what it took, or the new record with the front of its bank as it stands in x;
+-- and only the spare record's place may differ, where no byte is below the one to be written.
 pub record LeavesCommitted (bank : Bank) (new : Record) (x y : List ℕ) : Type 0 where
-  pub boot : Keeps (geometry_of bank) x y ⊎ Commits (geometry_of bank) new x y
+  pub boot : Keeps (geometry_of bank) x y ⊎ Commits (geometry_of bank) (boot_of (geometry_of bank) x new) x y
   pub changes : Changes (spare_record bank) 64 (IsTornProgram (written new)) x y

@@ -1,13 +1,19 @@
 -- Where records and banks stand. Blocks 0 and 1 hold the records of banks 0 and 1 in their first 64 bytes.
 -- Behind them stand both banks, each of half of the other blocks; an odd last block is unused.
 use Rattle.std.specs.Prelude.{◌≡◌, ℕ, ◌+◌, ◌-◌, ◌*◌, ◌/◌, ◌%◌, ◌≤◌, List}
+use Rattle.flash_dev.specs.declared.device.Flash.{Ghosts as FlashGhosts}
 use Rattle.flash_bank.specs.Pairs.{part}
 use Rattle.flash_bank.specs.Record.{IsValid}
+use Rattle.flash_bank.specs.declared.record.Record.{Record}
 
 -- the number of blocks, and the length of a block in bytes
 pub record Geometry : Type 0 where
   pub blocks : ℕ
   pub block_len : ℕ
+
+-- the number and the length of the blocks of a flash
+abbrev pub blocks_of : {F : Type 0} → FlashGhosts F → F → Geometry
+blocks_of f flash = record { blocks = f.block_count flash; block_len = f.block_len flash }
 
 -- block length and number of blocks are such that a flash can have this layout
 pub record IsInLimits (g : Geometry) : Type 0 where
@@ -24,6 +30,10 @@ bank_blocks g = (g.blocks - 2) / 2
 
 abbrev pub bank_len : Geometry → ℕ
 bank_len g = bank_blocks g * g.block_len
+
+-- the length of a bank where this is the current record: in this layout it is the same for each
+abbrev pub len_under : Geometry → Record → ℕ
+len_under g current = bank_len g
 
 -- where record block r begins, and bank k
 abbrev pub record_place : Geometry → ℕ → ℕ

@@ -3,9 +3,11 @@ pub mod Errors
 pub mod Find
 pub mod Format
 pub mod Layout
+pub mod Leaving
 pub mod Pairs
 pub mod Record
 pub mod Runs
+pub mod Seen
 pub mod Shape
 pub mod Sound
 pub mod Spare

@@ -1,9 +1,10 @@
 -- A record: 32 bytes that stand as 64, in pairs, in the front of a record block. By bytes: 0 to 3 the magic,
 -- 4 to 7 the number, 8 the bank, 12 to 15 the length of the image, 16 to 19 the software's model and version,
 -- 20 to 23 the group id; 9 to 11 and 24 to 31 are zero.
-use Rattle.std.specs.Prelude.{◌≡◌, ℕ, ◌-◌, ◌/◌, ◌%◌, ◌^◌, ◌<◌, ◌≤◌, List, [], ◌∷◌}
+use Rattle.std.specs.Prelude.{◌≡◌, ℕ, ◌+◌, ◌-◌, ◌/◌, ◌%◌, ◌^◌, ◌<◌, ◌≤◌, List, [], ◌∷◌}
 use Rattle.flash_bank.specs.Pairs.{AreWhole, byte_at, half_at, word_at}
 use Rattle.flash_bank.specs.declared.record.Record.{Record}
+use Rattle.ssu_compat.specs.declared.rule.SwId.{SwId}
 
 -- the record that these bytes stand for
 abbrev pub record_of : List ℕ → Record
@@ -41,6 +42,16 @@ paired (byte ∷ bytes) = byte ∷ (255 - byte) ∷ paired bytes
 -- the 64 bytes that are programmed for a record
 abbrev pub written : Record → List ℕ
 written r = paired (spelled r)
+
+-- the record that follows this one, for an image of this length
+abbrev pub next_record : Record → ℕ → SwId → ℕ → Record
+next_record former len software group = record {
+  number = former.number + 1;
+  bank = 1 - former.bank;
+  length = len;
+  software = software;
+  group = group;
+}
 
 -- the fields of a record are in the range of their types
 pub record IsInRange (head : Record) : Type 0 where

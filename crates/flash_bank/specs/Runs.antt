@@ -1,10 +1,26 @@
 -- What a run of calls does to a range.
-use Rattle.std.specs.Prelude.{◌≡◌, ◌⊎◌, ℕ, ◌+◌, ◌<◌, ◌≤◌, List}
+use Rattle.std.specs.Prelude.{◌≡◌, ◌⊎◌, ℕ, ◌+◌, ◌%◌, ◌<◌, ◌≤◌, List, length, slice_index}
+use Rattle.flash_dev.specs.Changes.{Changes, IsTornProgram}
 use Rattle.flash_dev.specs.Moments.{LeavesOnly}
 
--- a byte is not below what it was: no byte is above 255
+-- a byte is not below what it was
 abbrev pub IsRaised : ℕ → ℕ → ℕ → Type 0
-IsRaised k old new = (old ≤ new) ⊎ (new ≡ 255)
+IsRaised k old new = old ≤ new
+
+-- a byte on its way to the one to be written, which the first of them have become
+abbrev pub IsCutProgram : List ℕ → ℕ → ℕ → ℕ → ℕ → Type 0
+IsCutProgram bytes done k old new = IsTornProgram bytes k old new × (k < done → new ≡ slice_index bytes k)
+
+-- These bytes were programmed from `at` on, in pieces and in ascending order, up to within one piece: the pieces before it
+-- are done, it is torn, and all behind it is as in x. It lies in one page of 256 bytes, and ends at a multiple of 256 of
+-- the address, or with the bytes.
+pub record CutsInPage (at : ℕ) (bytes x y : List ℕ) : Type 0 where
+  pub done : ℕ
+  pub piece : ℕ
+  pub inside : done + piece ≤ length bytes
+  pub page : (at + done) % 256 + piece ≤ 256
+  pub ends : ((at + done + piece) % 256 ≡ 0) ⊎ (done + piece ≡ length bytes)
+  pub changes : Changes at (done + piece) (IsCutProgram bytes done) x y
 
 -- A call has only read: what is held is as before, and a power loss within it leaves nothing else.
 pub record OnlyReads {F : Type 0} (tells : Type 0) (contents : F → List ℕ) (block_count block_len moment : F → ℕ)

@@ -35,9 +35,12 @@ pub record Boot : Type 0 where
 abbrev pub image_of : Geometry → List ℕ → Record → List ℕ
 image_of g contents head = part contents (bank_place g head.bank) head.length
 
--- the record in block r with its image
+-- a record with its image, and the one in block r
+abbrev pub boot_of : Geometry → List ℕ → Record → Boot
+boot_of g contents head = record { head = head; image = image_of g contents head }
+
 abbrev pub boot_in : Geometry → List ℕ → ℕ → Boot
-boot_in g contents r = record { head = record_in g contents r; image = image_of g contents (record_in g contents r) }
+boot_in g contents r = boot_of g contents (record_in g contents r)
 
 -- what boot takes: the current record with its image
 pub record BootOf (g : Geometry) (contents : List ℕ) (boot : Boot) : Type 0 where
@@ -52,9 +55,11 @@ pub record PrevOf (g : Geometry) (contents : List ℕ) (boot : Boot) : Type 0 wh
   pub valid : HoldsRecord g contents (1 - block)
   pub is : boot ≡ boot_in g contents (1 - block)
 
--- y is sound, boot takes of it what it took of x, and what it took before is as in x or is there no longer
+-- y is sound, boot takes of it what it took of x, under the record in the same block, and what it took before is as in x
+-- or is there no longer
 pub record Keeps (g : Geometry) (x y : List ℕ) : Type 0 where
   pub sound : IsSound g y
+  pub current : (r : ℕ) → IsCurrent g x r → IsCurrent g y r
   pub boot : (b : Boot) → BootOf g x b → BootOf g y b
   pub prev : (b : Boot) → PrevOf g y b → PrevOf g x b
 
@@ -63,11 +68,10 @@ pub record KeepsBoth (g : Geometry) (x y : List ℕ) : Type 0 where
   pub keeps : Keeps g x y
   pub prev : (b : Boot) → PrevOf g x b → PrevOf g y b
 
--- y is sound, boot takes this new record with the front of its bank as it stands in x, and before it took what
--- boot takes of x
-pub record Commits (g : Geometry) (new : Record) (x y : List ℕ) : Type 0 where
+-- y is sound, boot takes this record with this image, and before it took what boot takes of x
+pub record Commits (g : Geometry) (new : Boot) (x y : List ℕ) : Type 0 where
   pub sound : IsSound g y
-  pub boot : BootOf g y (record { head = new; image = image_of g x new })
+  pub boot : BootOf g y new
   pub prev : (b : Boot) → BootOf g x b → PrevOf g y b
   pub no_other : (b : Boot) → PrevOf g y b → BootOf g x b
 

@@ -1,12 +1,8 @@
 -- What the erase of the spare record block, and then of the spare bank, makes of contents.
-use Rattle.std.specs.Prelude.{◌⊎◌, ℕ, ◌≤◌, List}
+use Rattle.std.specs.Prelude.{◌⊎◌, ℕ, List}
 use Rattle.flash_dev.specs.Changes.{Changes, IsErased}
 use Rattle.flash_bank.specs.Layout.{Geometry, bank_len, bank_place, record_place}
 use Rattle.flash_bank.specs.Runs.{IsRaised}
-
--- a byte of pairs is not below what it was
-abbrev pub IsNotBelow : ℕ → ℕ → ℕ → Type 0
-IsNotBelow k old new = old ≤ new
 
 -- the record block is erased, and the bank changed as P says
 pub record ErasesThen (g : Geometry) (block bank : ℕ) (P : ℕ → ℕ → ℕ → Type 0) (x y : List ℕ) : Type 0 where
@@ -16,4 +12,4 @@ pub record ErasesThen (g : Geometry) (block bank : ℕ) (P : ℕ → ℕ → ℕ
 
 -- the record block is on its way, or it is erased and the bank is on its way
 abbrev pub CutsSpare : Geometry → ℕ → ℕ → List ℕ → List ℕ → Type 0
-CutsSpare g block bank x y = Changes (record_place g block) g.block_len IsNotBelow x y ⊎ ErasesThen g block bank IsRaised x y
+CutsSpare g block bank x y = Changes (record_place g block) g.block_len IsRaised x y ⊎ ErasesThen g block bank IsRaised x y

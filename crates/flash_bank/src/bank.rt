@@ -1,10 +1,10 @@
-// Two banks of a flash: the one that boot takes, and the spare one, into which the next image goes.
-//
-// The order keeps what boot takes at every moment. `begin` erases the spare record before the spare bank, so no
-// valid record is left over a bank that changes. `fill` writes the image where no record points to. `commit`
-// writes the new record last, with one call: until it is whole it is not valid, and then it is current.
+//! Two banks of a flash: the one that boot takes, and the spare one, into which the next image goes.
+//!
+//! The order keeps what boot takes at every moment. `begin` erases the spare record before the spare bank, so no
+//! valid record is left over a bank that changes. `fill` writes the image where no record points to. `commit`
+//! writes the new record last, with one call: until it is whole it is not valid, and then it is current.
 ghost use Rattle.std.specs.Prelude.{◌≡◌, ◌⊎◌, ◌+◌, ◌-◌, ◌*◌, ◌^◌, ◌<◌, ◌≤◌, ◌↔◌, true, false, length, IfOk, IsErrOf, OnOk, OnErr};
-ghost use Rattle.flash_bank.specs.Layout.{IsInLimits, bank_len};
+ghost use Rattle.flash_bank.specs.Layout.{IsInLimits, bank_len, blocks_of};
 ghost use Rattle.flash_bank.specs.Shape.{geometry};
 
 use crate::fault::{BankFault, FlashFault};
@@ -35,12 +35,19 @@ pub struct Bank {
 impl Bank {
     ghost use Rattle.flash_dev.specs.Changes.{Changes, Holds, IsBlank, IsProgrammed};
     ghost use Rattle.flash_dev.specs.Moments.{LeavesOnly};
-    ghost use Rattle.flash_bank.specs.Bank.{IsLent, LeavesBegun, LeavesCommitted, LeavesFilled, block_of, current_of, geometry_of, is_begun, is_spent, next_record, spare_bank, spare_record};
+    ghost use Rattle.flash_bank.specs.Bank.{IsLent, LeavesBegun, LeavesCommitted, LeavesFilled, block_of, current_of};
+    ghost use Rattle.flash_bank.specs.Bank.{geometry_of, is_begun, is_spent, len_of, spare_bank, spare_record};
+    ghost use Rattle.flash_bank.specs.Record.{next_record};
     ghost use Rattle.flash_bank.specs.Runs.{OnlyReads};
-    ghost use Rattle.flash_bank.specs.Sound.{Commits, IsSound, IsWorn};
+    ghost use Rattle.flash_bank.specs.Sound.{Commits, IsSound, IsWorn, boot_of};
     ghost use Rattle.ssu_io.specs.Faults.{HasCause, Rose};
 
     /// Finds the current record. It changes nothing.
+    ///
+    /// Answers `Geometry` exactly where the number or the length of the blocks is out of the limits of the layout: 4
+    /// to 65,536 blocks of 256 to 65,536 bytes, a multiple of 256, and 268,435,456 bytes at most; `Flash` only where
+    /// the flash failed and its count of faults rose; `Foreign` where the contents are not sound; `Worn` where the
+    /// current record has the greatest number, 4,294,967,295.
     pub fn open<F: Flash>(flash: &mut F) -> Result<Bank, BankFault>
         ensures lent { IfOk result (λ bank. IsLent F.tells F.contents F.block_count F.block_len bank flash.new) }
         ensures fresh { IfOk result (λ bank. is_begun bank ≡ false) }
@@ -48,19 +55,19 @@ impl Bank {
 
         // The number or the length of the blocks is out of the limits.
         ensures geometry { IsErrOf result BankFault.Geometry
-            ↔ (IsInLimits (record { blocks = F.block_count flash.old; block_len = F.block_len flash.old }) → ⊥) }
-        ensures in_limits { OnOk result (IsInLimits (record { blocks = F.block_count flash.old; block_len = F.block_len flash.old })) }
+            ↔ (IsInLimits (blocks_of F.Flash flash.old) → ⊥) }
+        ensures in_limits { OnOk result (IsInLimits (blocks_of F.Flash flash.old)) }
         ensures fault { IsErrOf result BankFault.Flash → Rose (F.faults flash.old) (F.faults flash.new) }
 
         // The contents are not sound.
         ensures foreign { F.tells → IsErrOf result BankFault.Foreign
-            → IsSound (record { blocks = F.block_count flash.old; block_len = F.block_len flash.old }) (F.contents flash.old) → ⊥ }
+            → IsSound (blocks_of F.Flash flash.old) (F.contents flash.old) → ⊥ }
         ensures sound { F.tells → OnOk result
-            (IsSound (record { blocks = F.block_count flash.old; block_len = F.block_len flash.old }) (F.contents flash.old)) }
+            (IsSound (blocks_of F.Flash flash.old) (F.contents flash.old)) }
 
         // The current record has the greatest number.
         ensures worn { F.tells → IsErrOf result BankFault.Worn
-            → IsWorn (record { blocks = F.block_count flash.old; block_len = F.block_len flash.old }) (F.contents flash.old) }
+            → IsWorn (blocks_of F.Flash flash.old) (F.contents flash.old) }
 
         ensures reads { OnlyReads F.tells F.contents F.block_count F.block_len F.moment F.left_since flash.old flash.new }
         ensures faults { F.faults flash.old ≤ F.faults flash.new }
@@ -85,20 +92,22 @@ impl Bank {
     pub fn current(&self) -> Record
         ensures value { result ≡ current_of self.now }
         ensures bank { result.bank ≡ block_of self.now }
-        ensures fits { result.length ≤ bank_len (geometry_of self.now) }
+        ensures fits { result.length ≤ len_of self.now }
     {
         self.current
     }
 
     /// The length of a bank in bytes.
     pub fn bank_len(&self) -> u32
-        ensures value { result ≡ bank_len (geometry_of self.now) }
+        ensures value { result ≡ len_of self.now }
         ensures limits { IsInLimits (geometry_of self.now) }
     {
         self.shape.bank_len()
     }
 
-    /// Erases the spare record block and then the spare bank.
+    /// Erases the spare record block and then the spare bank. The current record is not the one with the greatest
+    /// number. `FlashFault` comes only where the flash failed and its count of faults rose: the spare block and bank
+    /// may be torn then, and the bank is spent.
     pub fn begin<F: Flash>(&mut self, flash: &mut F) -> Result<(), FlashFault>
         requires lent { IsLent F.tells F.contents F.block_count F.block_len self.old flash.old }
         requires next_fits { (current_of self.old).number < 4294967295 }
@@ -107,10 +116,10 @@ impl Bank {
         ensures erased_record { F.tells → OnOk result
             (IsBlank (F.contents flash.new) (spare_record self.old) (geometry_of self.old).block_len) }
         ensures erased_bank { F.tells → OnOk result
-            (IsBlank (F.contents flash.new) (spare_bank self.old) (bank_len (geometry_of self.old))) }
-        ensures held { F.tells → LeavesBegun self.old (F.contents flash.old) (F.contents flash.new) }
+            (IsBlank (F.contents flash.new) (spare_bank self.old) (len_of self.old)) }
+        ensures held { F.tells → LeavesBegun (geometry_of self.old) (F.contents flash.old) (F.contents flash.new) }
         ensures left { F.tells → LeavesOnly F.moment F.left_since flash.old flash.new
-            (LeavesBegun self.old (F.contents flash.old)) }
+            (LeavesBegun (geometry_of self.old) (F.contents flash.old)) }
         ensures begun_err { OnErr result (is_begun self.new ≡ is_begun self.old) }
         ensures spent { OnErr result (is_spent self.new ≡ true) }
         ensures current { current_of self.new ≡ current_of self.old }
@@ -127,11 +136,13 @@ impl Bank {
         Ok(())
     }
 
-    /// Programs bytes into the spare bank from `at` on, which is erased there.
+    /// Programs bytes into the spare bank from byte `at` of it on, which is erased there: `begin` came before, and
+    /// `at` and the number of bytes are together at most the length of a bank. `FlashFault` comes only where the
+    /// flash failed and its count of faults rose: the range may be torn then, and the bank is spent.
     pub fn fill<F: Flash>(&mut self, flash: &mut F, at: u32, bytes: &[u8]) -> Result<(), FlashFault>
         requires lent { IsLent F.tells F.contents F.block_count F.block_len self.old flash.old }
         requires begun { is_begun self.old ≡ true }
-        requires inside { at + length bytes.now ≤ bank_len (geometry_of self.old) }
+        requires inside { at + length bytes.now ≤ len_of self.old }
         requires blank { F.tells → IsBlank (F.contents flash.old) (spare_bank self.old + at) (length bytes.now) }
         ensures lent { OnOk result (IsLent F.tells F.contents F.block_count F.block_len self.new flash.new) }
         ensures begun { OnOk result (is_begun self.new ≡ true) }
@@ -156,7 +167,9 @@ impl Bank {
         Ok(())
     }
 
-    /// Reads bytes of the spare bank from `at` on.
+    /// Reads bytes of the spare bank from byte `at` of it on: `at` and the length of `buf` are together at most the
+    /// length of a bank. `FlashFault` comes only where the flash failed and its count of faults rose; the bank is
+    /// spent then.
     pub fn peek<F: Flash>(
         &mut self,
         flash: &mut F,
@@ -164,7 +177,7 @@ impl Bank {
         buf: &mut [u8],
     ) -> Result<(), FlashFault>
         requires lent { IsLent F.tells F.contents F.block_count F.block_len self.old flash.old }
-        requires inside { at + length buf.old ≤ bank_len (geometry_of self.old) }
+        requires inside { at + length buf.old ≤ len_of self.old }
         ensures lent { OnOk result (IsLent F.tells F.contents F.block_count F.block_len self.new flash.new) }
         ensures begun { is_begun self.new ≡ is_begun self.old }
         ensures bytes { F.tells → OnOk result (Holds (F.contents flash.old) (spare_bank self.old + at) buf.new) }
@@ -182,8 +195,10 @@ impl Bank {
         Ok(())
     }
 
-    /// Writes the next record, over the front of the spare bank. At Ok it is the current one, and the bank has
-    /// to be begun again.
+    /// Writes the next record, that of an image of `length` bytes at the front of the spare bank: `begin` came
+    /// before, and `length` is at most that of a bank. At Ok it is the current one, and the bank has to be begun
+    /// again. `FlashFault` comes only where the flash failed and its count of faults rose: boot takes the former
+    /// image or the new one then, and the bank is spent.
     pub fn commit<F: Flash>(
         &mut self,
         flash: &mut F,
@@ -193,21 +208,23 @@ impl Bank {
     ) -> Result<(), FlashFault>
         requires lent { IsLent F.tells F.contents F.block_count F.block_len self.old flash.old }
         requires begun { is_begun self.old ≡ true }
-        requires fits { length ≤ bank_len (geometry_of self.old) }
+        requires fits { length ≤ len_of self.old }
         ensures lent { OnOk result (IsLent F.tells F.contents F.block_count F.block_len self.new flash.new) }
         ensures begun { OnOk result (is_begun self.new ≡ false) }
-        ensures current { OnOk result (current_of self.new ≡ next_record self.old length software group) }
+        ensures current { OnOk result (current_of self.new ≡ next_record (current_of self.old) length software group) }
         ensures block { OnOk result (block_of self.new ≡ 1 - block_of self.old) }
         ensures committed { F.tells → OnOk result (Commits (geometry_of self.old)
-            (next_record self.old length software group) (F.contents flash.old) (F.contents flash.new)) }
-        ensures held { F.tells → LeavesCommitted self.old (next_record self.old length software group)
+            (boot_of (geometry_of self.old) (F.contents flash.old) (next_record (current_of self.old) length software group))
+            (F.contents flash.old) (F.contents flash.new)) }
+        ensures held { F.tells → LeavesCommitted self.old (next_record (current_of self.old) length software group)
             (F.contents flash.old) (F.contents flash.new) }
         ensures left { F.tells → LeavesOnly F.moment F.left_since flash.old flash.new
-            (LeavesCommitted self.old (next_record self.old length software group) (F.contents flash.old)) }
+            (LeavesCommitted self.old (next_record (current_of self.old) length software group) (F.contents flash.old)) }
         ensures begun_err { OnErr result (is_begun self.new ≡ is_begun self.old) }
         ensures current_err { OnErr result (current_of self.new ≡ current_of self.old) }
         ensures block_err { OnErr result (block_of self.new ≡ block_of self.old) }
         ensures spent { OnErr result (is_spent self.new ≡ true) }
+        ensures len { len_of self.new ≡ len_of self.old }
         ensures geometry { geometry_of self.new ≡ geometry_of self.old }
         ensures blocks { F.block_count flash.new ≡ F.block_count flash.old }
         ensures block_size { F.block_len flash.new ≡ F.block_len flash.old }

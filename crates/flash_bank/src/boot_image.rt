@@ -1,6 +1,6 @@
-// The image that boot takes.
+//! The image that boot takes.
 ghost use Rattle.std.specs.Prelude.{◌≡◌, ◌⊎◌, ◌↔◌, ◌+◌, ◌*◌, ◌^◌, ◌<◌, ◌≤◌, List, ℕ, length, IfOk, IsErrOf, OnErr, OnOk};
-ghost use Rattle.flash_bank.specs.Layout.{IsInLimits, bank_len, bank_place};
+ghost use Rattle.flash_bank.specs.Layout.{IsInLimits, bank_len, bank_place, blocks_of};
 ghost use Rattle.flash_bank.specs.Pairs.{part};
 ghost use Rattle.flash_bank.specs.Runs.{OnlyReads};
 ghost use Rattle.flash_bank.specs.Sound.{Boot, BootOf, IsSound};
@@ -17,32 +17,38 @@ use ssu_io::Sink;
 /// The length of a piece of the image.
 const PIECE: usize = 256;
 
-/// Puts the image of the current record into the sink. It does not change the flash.
+/// Puts the image of the current record into the sink, and answers the record. It does not change the flash.
+///
+/// Answers `Geometry` exactly where the number or the length of the blocks is out of the limits of the layout: 4 to
+/// 65,536 blocks of 256 to 65,536 bytes, a multiple of 256, and 268,435,456 bytes at most; `Flash` only where the
+/// flash failed and its count of faults rose; `Foreign` where the contents are not sound; `Write` only where the sink
+/// failed and its count of faults rose. At `Geometry` and `Foreign` nothing was put, at `Flash` and `Write` nothing
+/// or a prefix of the image.
 pub fn boot<F: Flash, W: Sink>(flash: &mut F, sink: &mut W) -> Result<Record, BootFault>
     ensures whole { F.tells → IfOk result (λ head. (image : List ℕ)
-        × BootOf (record { blocks = F.block_count flash.old; block_len = F.block_len flash.old })
+        × BootOf (blocks_of F.Flash flash.old)
         (F.contents flash.old) (record { head = head; image = image })
         × Gains (W.contents sink.old) (W.contents sink.new) image) }
 
     // After a fault nothing was put, or a prefix of the image.
     ensures prefix { F.tells → OnErr result ((W.contents sink.new ≡ W.contents sink.old) ⊎ ((taken : Boot)
-        × BootOf (record { blocks = F.block_count flash.old; block_len = F.block_len flash.old }) (F.contents flash.old) taken
+        × BootOf (blocks_of F.Flash flash.old) (F.contents flash.old) taken
         × GainsPrefix (W.contents sink.old) (W.contents sink.new) taken.image)) }
 
     // The number or the length of the blocks is out of the limits.
     ensures geometry { IsErrOf result BootFault.Geometry
-        ↔ (IsInLimits (record { blocks = F.block_count flash.old; block_len = F.block_len flash.old }) → ⊥) }
+        ↔ (IsInLimits (blocks_of F.Flash flash.old) → ⊥) }
     ensures fault { IsErrOf result BootFault.Flash → Rose (F.faults flash.old) (F.faults flash.new) }
 
     // The contents are not sound.
     ensures foreign { F.tells → IsErrOf result BootFault.Foreign
-        → IsSound (record { blocks = F.block_count flash.old; block_len = F.block_len flash.old }) (F.contents flash.old) → ⊥ }
+        → IsSound (blocks_of F.Flash flash.old) (F.contents flash.old) → ⊥ }
     ensures refused { IsErrOf result BootFault.Geometry ⊎ IsErrOf result BootFault.Foreign → W.contents sink.new ≡ W.contents sink.old }
     ensures sound { F.tells → OnOk result
-        (IsSound (record { blocks = F.block_count flash.old; block_len = F.block_len flash.old }) (F.contents flash.old)) }
+        (IsSound (blocks_of F.Flash flash.old) (F.contents flash.old)) }
     ensures write { IsErrOf result BootFault.Write → Rose (W.faults sink.old) (W.faults sink.new) }
     ensures write_sound { F.tells → IsErrOf result BootFault.Write
-        → IsSound (record { blocks = F.block_count flash.old; block_len = F.block_len flash.old }) (F.contents flash.old) }
+        → IsSound (blocks_of F.Flash flash.old) (F.contents flash.old) }
 
     ensures reads { OnlyReads F.tells F.contents F.block_count F.block_len F.moment F.left_since flash.old flash.new }
     ensures faults { F.faults flash.old ≤ F.faults flash.new }
@@ -62,7 +68,7 @@ pub fn boot<F: Flash, W: Sink>(flash: &mut F, sink: &mut W) -> Result<Record, Bo
     }
 }
 
-// Puts bytes of the flash into the sink, piece by piece.
+/// Puts bytes of the flash into the sink, piece by piece.
 fn put_image<F: Flash, W: Sink>(
     flash: &mut F,
     sink: &mut W,
@@ -91,7 +97,7 @@ fn put_image<F: Flash, W: Sink>(
     Ok(())
 }
 
-// Puts up to 256 bytes.
+/// Puts up to 256 bytes.
 fn put_some<F: Flash, W: Sink>(
     flash: &mut F,
     sink: &mut W,
@@ -115,7 +121,7 @@ fn put_some<F: Flash, W: Sink>(
     put_piece(flash, sink, at, &mut buf[..len as usize])
 }
 
-// Reads a piece and puts it.
+/// Reads a piece and puts it.
 fn put_piece<F: Flash, W: Sink>(
     flash: &mut F,
     sink: &mut W,

@@ -1,4 +1,4 @@
-// Which record is current.
+//! Which record is current.
 ghost use Rattle.std.specs.Prelude.{◌≡◌, ◌+◌, ◌*◌, ◌<◌, ◌≤◌, length, IfOk, IfSome, MatchOption};
 ghost use Rattle.flash_bank.specs.Find.{Describes, Finds, current_of_two, newer_of};
 ghost use Rattle.flash_bank.specs.Layout.{IsInLimits, bank_len, record_bytes};
@@ -48,7 +48,7 @@ pub(crate) fn find_current<F: Flash>(flash: &mut F, shape: Shape) -> Result<Opti
     Ok(choose(first, second))
 }
 
-// The valid record with the greater number, where the two blocks are sound.
+/// The valid record with the greater number, where the two blocks are sound.
 fn choose(first: Block, second: Block) -> Option<Current>
     ensures { result ≡ current_of_two first second }
 {

@@ -1,7 +1,7 @@
-// The first record and image of a flash.
+//! The first record and image of a flash.
 ghost use Rattle.std.specs.Prelude.{◌≡◌, ◌↔◌, ◌<◌, ◌≤◌, length, IfOk, IsErrOf, OnErr, OnOk};
 ghost use Rattle.flash_bank.specs.Format.{Formats, PutsFirst, SameOutsideFirst, first_record};
-ghost use Rattle.flash_bank.specs.Layout.{IsInLimits, bank_len};
+ghost use Rattle.flash_bank.specs.Layout.{IsInLimits, bank_len, blocks_of};
 ghost use Rattle.flash_bank.specs.Record.{IsInRange};
 ghost use Rattle.flash_bank.specs.Runs.{OnlyReads};
 ghost use Rattle.flash_bank.specs.Shape.{geometry};
@@ -16,25 +16,30 @@ use flash_dev::Flash;
 use ssu_compat::SwId;
 use ssu_io::Failed;
 
-/// Erases both record blocks and bank 0, puts the image there, and writes record 1 over it. Of a power loss
-/// within it nothing is promised.
+/// Erases both record blocks and bank 0, puts the image there, and writes record 1 over it. Of a power loss within it
+/// nothing is promised.
+///
+/// Answers `Geometry` exactly where the number or the length of the blocks is out of the limits of the layout: 4 to
+/// 65,536 blocks of 256 to 65,536 bytes, a multiple of 256, and 268,435,456 bytes at most; else `NoFit` exactly where
+/// the image has more bytes than a bank; `Flash` only where the flash failed and its count of faults rose. The first
+/// two change nothing. At `Flash` the other bank and an odd last block are as they were.
 pub fn format<F: Flash>(flash: &mut F, image: &[u8], software: SwId) -> Result<Record, FormatFault>
     ensures head { IfOk result (λ head. head ≡ first_record (length image.now) software) }
-    ensures formatted { F.tells → IfOk result (λ head. Formats (record { blocks = F.block_count flash.old; block_len = F.block_len flash.old })
+    ensures formatted { F.tells → IfOk result (λ head. Formats (blocks_of F.Flash flash.old)
         head image.now (F.contents flash.old) (F.contents flash.new)) }
 
     // The number or the length of the blocks is out of the limits.
     ensures geometry { IsErrOf result FormatFault.Geometry
-        ↔ (IsInLimits (record { blocks = F.block_count flash.old; block_len = F.block_len flash.old }) → ⊥) }
+        ↔ (IsInLimits (blocks_of F.Flash flash.old) → ⊥) }
 
     // The image is longer than a bank.
     ensures no_fit { IsErrOf result FormatFault.NoFit
-        ↔ (IsInLimits (record { blocks = F.block_count flash.old; block_len = F.block_len flash.old })
-        × (bank_len (record { blocks = F.block_count flash.old; block_len = F.block_len flash.old }) < length image.now)) }
+        ↔ (IsInLimits (blocks_of F.Flash flash.old)
+        × (bank_len (blocks_of F.Flash flash.old) < length image.now)) }
     ensures fault { IsErrOf result FormatFault.Flash → Rose (F.faults flash.old) (F.faults flash.new) }
 
     // Whatever it answers, the other bank and an odd last block are as they were.
-    ensures outside { F.tells → SameOutsideFirst (record { blocks = F.block_count flash.old; block_len = F.block_len flash.old })
+    ensures outside { F.tells → SameOutsideFirst (blocks_of F.Flash flash.old)
         (F.contents flash.old) (F.contents flash.new) }
 
     // A refusal changes nothing.
@@ -63,7 +68,7 @@ pub fn format<F: Flash>(flash: &mut F, image: &[u8], software: SwId) -> Result<R
     }
 }
 
-// Erases, puts the image into bank 0 and its record into block 0.
+/// Erases, puts the image into bank 0 and its record into block 0.
 fn put_first<F: Flash>(
     flash: &mut F,
     shape: Shape,

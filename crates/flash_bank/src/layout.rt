@@ -1,7 +1,7 @@
-// Where records and banks stand in a flash of a given geometry.
+//! Where records and banks stand in a flash of a given geometry.
 ghost use Rattle.std.specs.Prelude.{◌≡◌, ◌↔◌, ◌+◌, ◌*◌, ◌<◌, ◌≤◌, IfNone, IfSome, IsTrue, length};
 ghost use Rattle.flash_bank.specs.Shape.{geometry};
-ghost use Rattle.flash_bank.specs.Layout.{IsInLimits, bank_blocks, bank_len, bank_place, record_place};
+ghost use Rattle.flash_bank.specs.Layout.{IsInLimits, bank_blocks, bank_len, bank_place, blocks_of, record_place};
 
 use flash_dev::Flash;
 
@@ -17,7 +17,7 @@ pub(crate) fn shape_of<F: Flash>(flash: &F) -> Option<Shape>
     ensures limits { IfSome result (λ shape. IsInLimits (geometry shape)) }
     ensures blocks { IfSome result (λ shape. shape.blocks ≡ F.block_count flash.now) }
     ensures block_size { IfSome result (λ shape. shape.block_size ≡ F.block_len flash.now) }
-    ensures none { IfNone result (IsInLimits (record { blocks = F.block_count flash.now; block_len = F.block_len flash.now }) → ⊥) }
+    ensures none { IfNone result (IsInLimits (blocks_of F.Flash flash.now) → ⊥) }
     ensures whole { F.tells → length (F.contents flash.now) ≡ F.block_count flash.now * F.block_len flash.now }
 {
     let blocks = flash.blocks();

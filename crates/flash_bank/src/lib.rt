@@ -16,6 +16,3 @@ pub use boot_image::boot;
 pub use fault::{BankFault, BootFault, FlashFault, FormatFault};
 pub use first_image::format;
 pub use record::Record;
-
-#[cfg(test)]
-mod tests;

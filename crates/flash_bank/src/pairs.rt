@@ -1,6 +1,6 @@
-// The pairs of a record: each byte b stands as the pair b, 255 - b, so a whole pair sums to 255.
-// A torn erase or program only raises bytes. So a pair that summed to 255 or more and sums to 255 after it is
-// the pair of before the erase, or the finished pair of the program: nothing torn can turn valid by itself.
+//! The pairs of a record: each byte b stands as the pair b, 255 - b, so a whole pair sums to 255.
+//! A torn erase or program only raises bytes. So a pair that summed to 255 or more and sums to 255 after it is
+//! the pair of before the erase, or the finished pair of the program: nothing torn can turn valid by itself.
 ghost use Rattle.std.specs.Prelude.{◌≡◌, ◌↔◌, ◌+◌, ◌*◌, ◌<◌, ◌≤◌, ℕ, IsTrue, IfSome, IsSome, length, slice_index};
 ghost use Rattle.flash_bank.specs.Layout.{Allows};
 ghost use Rattle.flash_bank.specs.Pairs.{AreWhole, NoneBelow, byte_at, half_at, word_at};
@@ -40,7 +40,7 @@ fn are_whole(bytes: &[u8]) -> bool
     true
 }
 
-// The bytes that stand for nothing are zero from one pair up to another.
+/// The bytes that stand for nothing are zero from one pair up to another.
 fn are_zero(bytes: &[u8], from: usize, to: usize) -> bool
     requires len { length bytes.now ≡ 64 }
     requires to { to ≤ 32 }
@@ -105,7 +105,7 @@ pub(crate) fn valid_record(bytes: &[u8], block: u32, bank_len: u32) -> Option<Re
     }
 }
 
-// The magic is right, the bank is that of the block, and the image fits it.
+/// The magic is right, the bank is that of the block, and the image fits it.
 fn is_allowed(magic: u32, head: Record, block: u32, bank_len: u32) -> bool
     ensures { IsTrue result ↔ Allows block bank_len magic head.bank head.length }
 {

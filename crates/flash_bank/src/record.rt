@@ -1,4 +1,4 @@
-// What a record says: which bank holds which image, and in what order records were written.
+//! What a record says: which bank holds which image, and in what order records were written.
 use ssu_compat::SwId;
 
 /// A record of an image.

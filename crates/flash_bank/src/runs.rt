@@ -1,9 +1,9 @@
-// Runs of flash calls: the erase of neighbouring blocks, and the program of a text in pieces.
-ghost use Rattle.std.specs.Prelude.{◌≡◌, ◌+◌, ◌*◌, ◌%◌, ◌^◌, ◌<◌, ◌≤◌, length, OnOk};
+//! Runs of flash calls: the erase of neighbouring blocks, and the program of a text in pieces.
+ghost use Rattle.std.specs.Prelude.{◌≡◌, ◌⊎◌, ◌+◌, ◌*◌, ◌%◌, ◌^◌, ◌<◌, ◌≤◌, length, OnOk};
 ghost use Rattle.flash_dev.specs.Changes.{Changes, IsBlank, IsErased, IsProgrammed, IsTornProgram};
 ghost use Rattle.flash_dev.specs.Moments.{LeavesOnly};
 ghost use Rattle.flash_bank.specs.Layout.{IsInLimits};
-ghost use Rattle.flash_bank.specs.Runs.{IsRaised};
+ghost use Rattle.flash_bank.specs.Runs.{CutsInPage, IsRaised};
 ghost use Rattle.flash_bank.specs.Shape.{geometry};
 ghost use Rattle.flash_bank.specs.Spare.{CutsSpare, ErasesThen};
 ghost use Rattle.ssu_io.specs.Faults.{HasCause};
@@ -45,6 +45,10 @@ pub(crate) fn program_pieces<F: Flash>(flash: &mut F, at: u32, bytes: &[u8]) -> 
         (IsTornProgram bytes.now) (F.contents flash.old) (F.contents flash.new) }
     ensures left { F.tells → LeavesOnly F.moment F.left_since flash.old flash.new
         (Changes at (length bytes.now) (IsTornProgram bytes.now) (F.contents flash.old)) }
+
+    // Each call is for one piece, within its page of 256 bytes.
+    ensures pages { F.tells → LeavesOnly F.moment F.left_since flash.old flash.new
+        (CutsInPage at bytes.now (F.contents flash.old)) }
     ensures blocks { F.block_count flash.new ≡ F.block_count flash.old }
     ensures block_size { F.block_len flash.new ≡ F.block_len flash.old }
     ensures cause { HasCause (F.faults flash.old) (F.faults flash.new) result }
@@ -59,12 +63,13 @@ pub(crate) fn program_pieces<F: Flash>(flash: &mut F, at: u32, bytes: &[u8]) -> 
     Ok(())
 }
 
-// The length of the piece at an address: up to the next multiple of 256, or what is left.
+/// The length of the piece at an address: up to the next multiple of 256, or what is left.
 fn piece_len(place: usize, left: usize) -> usize
     requires { 0 < left }
     ensures some { 0 < result }
     ensures few { result ≤ 256 }
     ensures page { place % 256 + result ≤ 256 }
+    ensures ends { ((place + result) % 256 ≡ 0) ⊎ (result ≡ left) }
     ensures inside { result ≤ left }
 {
     left.min(256 - place % 256)

@@ -1,5 +1,5 @@
-// A file as a flash.
-ghost use Rattle.std.specs.Prelude.{◌≡◌, ◌≢◌, ◌*◌, ◌%◌, ◌^◌, ◌<◌, ◌≤◌, [], IfOk};
+//! A file as a flash.
+ghost use Rattle.std.specs.Prelude.{◌≡◌, ◌≢◌, ◌↔◌, ◌*◌, ◌%◌, ◌^◌, ◌<◌, ◌≤◌, false, [], IfOk, IsErr};
 
 use crate::Flash;
 use ssu_io::Failed;
@@ -23,6 +23,7 @@ const BROKEN_BLOCKS: u32 = 4;
 #[derive(Drop)]
 pub struct FileFlash<'a, R: Files> {
     file: Option<R::File>,
+    writes: bool,
     blocks: u32,
     faults: u64,
     runtime: PhantomData<&'a R>,
@@ -30,28 +31,79 @@ pub struct FileFlash<'a, R: Files> {
 }
 
 impl<'a, R: Files> FileFlash<'a, R> {
-    /// Opens the file. One that is absent, has no whole number of blocks or more than 4,294,967,295 bytes
-    /// is a flash of 0 blocks. One that is there and cannot be opened is a flash of 4 blocks of which
-    /// every call fails.
+    ghost use Rattle.ssu_io.specs.Faults.{HasCause};
+
+    /// Opens the file for reading and writing, at once. One that is absent or empty, has no whole number of
+    /// blocks or more than 4,294,967,295 bytes is a flash of 0 blocks. One that is there and cannot be opened,
+    /// as a folder, is a flash of 4 blocks of which every call fails.
     pub fn new(rt: &'a R, path: String) -> FileFlash<'a, R>
         ensures { result.faults ≡ 0 }
     {
-        match open(rt, &path) {
-            Ok((file, blocks)) => FileFlash::of(Some(file), blocks),
-            Err(error) if error.kind() == ErrorKind::NotFound => FileFlash::of(None, 0),
-            Err(_) => FileFlash::of(None, BROKEN_BLOCKS),
+        FileFlash::opened(rt, path, true)
+    }
+
+    /// Opens the file for reading alone, at once, with the same blocks as `new`. Each erase and program fails,
+    /// is counted as a fault and does not touch the file.
+    pub fn read_only(rt: &'a R, path: String) -> FileFlash<'a, R>
+        ensures faults { result.faults ≡ 0 }
+        ensures reads_alone { result.writes ≡ false }
+    {
+        FileFlash::opened(rt, path, false)
+    }
+
+    fn opened(rt: &'a R, path: String, writes: bool) -> FileFlash<'a, R>
+        ensures faults { result.faults ≡ 0 }
+        ensures writes { result.writes ≡ writes }
+    {
+        match open(rt, &path, writes) {
+            Ok((file, blocks)) => FileFlash::of(Some(file), blocks, writes),
+            Err(error) if error.kind() == ErrorKind::NotFound => FileFlash::of(None, 0, writes),
+            Err(_) => FileFlash::of(None, BROKEN_BLOCKS, writes),
         }
     }
 
-    fn of(file: Option<R::File>, blocks: u32) -> FileFlash<'a, R>
+    fn of(file: Option<R::File>, blocks: u32, writes: bool) -> FileFlash<'a, R>
         requires { blocks * 4096 < 2 ^ 32 }
-        ensures { result.faults ≡ 0 }
+        ensures faults { result.faults ≡ 0 }
+        ensures writes { result.writes ≡ writes }
     {
         FileFlash {
             file,
+            writes,
             blocks,
             faults: 0,
             runtime: PhantomData,
+        }
+    }
+
+    /// Writes bytes into the file, unless it was opened for reading alone.
+    fn write(&mut self, at: u32, bytes: &[u8]) -> Result<(), Failed>
+        ensures reads_alone { self.old.writes ≡ false → IsErr result }
+        ensures writes { self.new.writes ≡ self.old.writes }
+        ensures blocks { self.new.blocks ≡ self.old.blocks }
+        ensures cause { HasCause self.old.faults self.new.faults result }
+    {
+        let outcome = if self.writes {
+            write_at(&mut self.file, at, bytes)
+        } else {
+            Err(io::Error::from(ErrorKind::PermissionDenied))
+        };
+        self.count(outcome)
+    }
+
+    /// The answer of a call, whose failure is counted.
+    fn count(&mut self, outcome: io::Result<()>) -> Result<(), Failed>
+        ensures answer { IsErr result ↔ IsErr outcome }
+        ensures writes { self.new.writes ≡ self.old.writes }
+        ensures blocks { self.new.blocks ≡ self.old.blocks }
+        ensures cause { HasCause self.old.faults self.new.faults result }
+    {
+        match outcome {
+            Ok(()) => Ok(()),
+            Err(_) => {
+                self.faults = self.faults.saturating_add(1);
+                Err(Failed)
+            }
         }
     }
 }
@@ -71,7 +123,11 @@ impl<R: Files> Flash for FileFlash<'_, R> {
 
     ghost left_since = { λ _ _ _. ⊥ };
 
+    ghost halted = { λ _. ⊥ };
+
     ghost faults = { λ flash. flash.faults };
+
+    ghost are_bytes = { λ none _ _. absurd none };
 
     ghost counts_now = { λ none _ _ _. absurd none };
 
@@ -86,46 +142,33 @@ impl<R: Files> Flash for FileFlash<'_, R> {
     }
 
     fn read(&mut self, at: u32, buf: &mut [u8]) -> Result<(), Failed> {
-        match read_at(&mut self.file, at, buf) {
-            Ok(()) => Ok(()),
-            Err(_) => {
-                self.faults = self.faults.saturating_add(1);
-                Err(Failed)
-            }
-        }
+        let outcome = read_at(&mut self.file, at, buf);
+        self.count(outcome)
     }
 
     fn erase(&mut self, block: u32) -> Result<(), Failed> {
-        match write_at(&mut self.file, block * BLOCK, &BLANK) {
-            Ok(()) => Ok(()),
-            Err(_) => {
-                self.faults = self.faults.saturating_add(1);
-                Err(Failed)
-            }
-        }
+        self.write(block * BLOCK, &BLANK)
     }
 
     fn program(&mut self, at: u32, bytes: &[u8]) -> Result<(), Failed> {
-        match write_at(&mut self.file, at, bytes) {
-            Ok(()) => Ok(()),
-            Err(_) => {
-                self.faults = self.faults.saturating_add(1);
-                Err(Failed)
-            }
-        }
+        self.write(at, bytes)
     }
 }
 
-// The file, open for reading and writing, and its number of blocks.
-fn open<R: Files>(rt: &R, path: &String) -> io::Result<(R::File, u32)>
+/// The file, open for reading and, where it is wanted, for writing, and its number of blocks. Its end tells its
+/// length, also where it is a device.
+fn open<R: Files>(rt: &R, path: &String, writes: bool) -> io::Result<(R::File, u32)>
     ensures { IfOk result (λ opened. opened.1 * 4096 < 2 ^ 32) }
 {
-    let file = OpenOptions::new().read(true).write(true).open(rt, path)?;
-    let len = file.metadata()?.len();
+    let mut file = OpenOptions::new().read(true).write(writes).open(rt, path)?;
+    if file.metadata()?.is_dir() {
+        return Err(io::Error::from(ErrorKind::IsADirectory));
+    }
+    let len = file.seek(SeekFrom::End(0))?;
     Ok((file, whole_blocks(len)))
 }
 
-// The number of blocks of a file of this length, 0 where it has no whole number of them or is too long.
+/// The number of blocks of a file of this length, 0 where it has no whole number of them or is too long.
 fn whole_blocks(len: u64) -> u32
     ensures fits { result * 4096 < 2 ^ 32 }
     ensures whole { len % 4096 ≡ 0 → len < 2 ^ 32 → result * 4096 ≡ len }

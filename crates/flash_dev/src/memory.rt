@@ -1,12 +1,14 @@
-// A flash in memory whose calls fail where a test says so, and which tells all that a power loss might have left.
-ghost use Rattle.std.specs.Prelude.{true, IsErr, is_ok, if◌then◌else◌, ◌≡◌, ◌⊎◌, ◌↔◌, ◌+◌, ◌*◌, ◌%◌, ◌^◌, ◌<◌, ◌≤◌, ◌∷◌, ◌++◌, [], List, ℕ, length, replicate, slice_index, vec_len, IfOk, IsOk, OnOk, OnErr, Some};
+//! A flash in memory whose calls fail where a test says so, and which tells all that a power loss might have left.
+ghost use Rattle.std.specs.Prelude.{true, IsErr, is_ok, if◌then◌else◌, ◌≡◌, ◌⊎◌, ◌↔◌, ◌+◌, ◌*◌, ◌%◌, ◌^◌, ◌<◌, ◌≤◌};
+ghost use Rattle.std.specs.Prelude.{◌∷◌, ◌++◌, [], List, ℕ, length, replicate, slice_index, vec_len, IfOk, IsOk, OnOk};
+ghost use Rattle.std.specs.Prelude.{OnErr, Some};
 ghost use Rattle.std.specs.Vec.{vec_capacity};
 ghost use Rattle.flash_dev.specs.Calls.{after_calls, changed, changed_in, recorded, Alters, IsInside, LeftSince, Tears};
 ghost use Rattle.flash_dev.specs.Changes.{Changes, Holds, IsBlank, IsErased, IsProgrammed, IsTornErase, IsTornProgram, LiesInOneBlock};
 ghost use Rattle.flash_dev.specs.Moments.{Elapses};
 ghost use Rattle.flash_dev.specs.Tears.{erased_byte, programmed_byte};
 ghost use Rattle.flash_dev.specs.Planned.{counted, planned, unplanned, ending_of, read_fails, after_change, after_read};
-ghost use Rattle.flash_dev.specs.declared.tear.Ending.TheVariants.{Done, Refused};
+ghost use Rattle.flash_dev.specs.declared.tear.Ending.TheVariants.{Done};
 ghost use Rattle.ssu_io.specs.Faults.{HasCause};
 
 use crate::Flash;
@@ -38,9 +40,10 @@ pub struct MemFlash {
 }
 
 impl MemFlash {
-    ghost use Rattle.flash_dev.specs.Memory.{block_count_of, block_len_of, contents_of, faults_of, left_since_of, moment_of, plan_of};
+    ghost use Rattle.flash_dev.specs.Memory.{block_count_of, block_len_of, contents_of, faults_of, halted_of, left_since_of, moment_of, plan_of};
 
-    /// A flash of `blocks` blocks that is all 255, with room for `calls` erases and programs.
+    /// A flash of `blocks` blocks of `block_size` bytes that is all 255, with room for `calls` erases and programs.
+    /// It has at most 4,294,967,295 bytes. `NoMemory` is the one refusal.
     pub fn blank(
         alloc: Global,
         blocks: u32,
@@ -60,7 +63,8 @@ impl MemFlash {
         MemFlash::of(alloc, held, blocks, block_size, calls)
     }
 
-    /// A flash with these contents, which are whole blocks, and room for `calls` erases and programs.
+    /// A flash with these contents, which are whole blocks of `block_size` bytes and at most 4,294,967,295 bytes, and
+    /// with room for `calls` erases and programs. `NoMemory` is the one refusal.
     pub fn holding(
         alloc: Global,
         contents: &[u8],
@@ -81,8 +85,8 @@ impl MemFlash {
         MemFlash::of(alloc, held, blocks, block_size, calls)
     }
 
-    /// Has the erase or program of this number fail, torn as `tear` says. Of several such wishes for one
-    /// number the first holds. After a refusal nothing has changed.
+    /// Has the erase or program of this number fail, torn as `tear` says. Of several such wishes for one number the
+    /// first holds. `NoMemory` is the one refusal, and leaves all as it was.
     pub fn fail_at(&mut self, call: u32, tear: Tear) -> Result<(), NoMemory>
         ensures ok { OnOk result (plan_of self.new ≡ record (plan_of self.old) { fails = (plan_of self.old).fails ++ (call, tear) ∷ [] }) }
         ensures err { OnErr result (plan_of self.new ≡ plan_of self.old) }
@@ -96,7 +100,7 @@ impl MemFlash {
         self.schedule.fail_at(call, tear)
     }
 
-    /// Has the read of this number fail. After a refusal nothing has changed.
+    /// Has the read of this number fail. `NoMemory` is the one refusal, and leaves all as it was.
     pub fn fail_read(&mut self, call: u32) -> Result<(), NoMemory>
         ensures ok { OnOk result (plan_of self.new ≡ record (plan_of self.old) { failing_reads = (plan_of self.old).failing_reads ++ call ∷ [] }) }
         ensures err { OnErr result (plan_of self.new ≡ plan_of self.old) }
@@ -159,7 +163,7 @@ impl MemFlash {
         })
     }
 
-    // Makes a change as far as it comes, and records it.
+    /// Makes a change as far as it comes, and records it.
     fn change(&mut self, change: Change) -> Result<(), Failed>
         requires { IsInside change (length self.old.held.items) }
         ensures answer { IsOk result ↔ (ending_of (plan_of self.old) ≡ Done) }
@@ -174,8 +178,9 @@ impl MemFlash {
             (λ t c. LeftSince t self.old.calls.items self.old.first.items c)
             (λ t c. LeftSince t self.new.calls.items self.new.first.items c)
             (λ c. Tears change self.old.held.items c ⊎ (c ≡ self.new.held.items)) }
-        ensures counts { (ending_of (plan_of self.old) ≡ Refused → ⊥) → ((t : ℕ) (c : List ℕ) → t ≤ length self.old.calls.items
-            → Tears change self.old.held.items c → LeftSince t self.new.calls.items self.new.first.items c) }
+        ensures counts { (halted_of self.old → ⊥) → (t : ℕ) (c : List ℕ) → t ≤ length self.old.calls.items
+            → Tears change self.old.held.items c → LeftSince t self.new.calls.items self.new.first.items c }
+        ensures halt { halted_of self.old → IsErr result × halted_of self.new }
         ensures faults { self.new.faults ≡ (if is_ok result then self.old.faults else counted self.old.faults) }
         ensures cause { HasCause self.old.faults self.new.faults result }
     {
@@ -187,7 +192,7 @@ impl MemFlash {
     }
 }
 
-// The same bytes, each of which is a byte.
+/// The same bytes, each of which is a byte.
 fn copied(alloc: Global, bytes: &[u8]) -> Result<Vec<u8>, AllocError>
     ensures same { IfOk result (λ copy. copy.items ≡ bytes.now) }
     ensures bytes { (k : ℕ) → slice_index bytes.now k ≤ 255 }
@@ -195,7 +200,7 @@ fn copied(alloc: Global, bytes: &[u8]) -> Result<Vec<u8>, AllocError>
     bytes.to_vec(alloc)
 }
 
-// Makes a change that the schedule does not refuse, and records it.
+/// Makes a change that the schedule does not refuse, and records it.
 fn make(
     held: &mut Vec<u8>,
     calls: &mut Vec<Call>,
@@ -225,7 +230,7 @@ fn make(
     }
 }
 
-// Records a change, for which there is room, and gives the answer back.
+/// Records a change, for which there is room, and gives the answer back.
 fn keep(
     calls: &mut Vec<Call>,
     change: Change,
@@ -244,7 +249,7 @@ fn keep(
     }
 }
 
-// The number of whole blocks, 0 where a block has no bytes.
+/// The number of whole blocks, 0 where a block has no bytes.
 fn block_number(len: usize, block_size: u32) -> u32
     requires whole { len % block_size ≡ 0 }
     requires addressable { len < 2 ^ 32 }
@@ -258,7 +263,8 @@ fn block_number(len: usize, block_size: u32) -> u32
 }
 
 impl Flash for MemFlash {
-    ghost use Rattle.flash_dev.specs.Memory.{block_count_of, block_len_of, contents_of, faults_of, left_held, left_since_of, moment_of, only_held, plan_of};
+    ghost use Rattle.flash_dev.specs.Memory.{block_count_of, block_len_of, contents_of, faults_of, halted_of};
+    ghost use Rattle.flash_dev.specs.Memory.{left_held, left_since_of, moment_of, only_held, plan_of};
 
     ghost tells = { Unit {0} };
 
@@ -274,7 +280,11 @@ impl Flash for MemFlash {
 
     ghost left_since = { left_since_of };
 
+    ghost halted = { halted_of };
+
     ghost faults = { faults_of };
+
+    ghost are_bytes = { λ _ m k. m.bytes k };
 
     ghost counts_now = { λ _ m t le. left_held m t };
 
@@ -288,7 +298,8 @@ impl Flash for MemFlash {
         self.block_size
     }
 
-    // Beside what each flash promises: which reads fail.
+    /// Beside what each flash promises: which reads fail. `Failed` comes exactly where the flash has stopped, or the
+    /// read of this number is to fail.
     fn read(&mut self, at: u32, buf: &mut [u8]) -> Result<(), Failed>
         requires { at + length buf.old ≤ block_count_of self.old * block_len_of self.old }
         ensures answer { IsErr result ↔ (read_fails (plan_of self.old) ≡ true) }
@@ -299,6 +310,7 @@ impl Flash for MemFlash {
         ensures block_size { block_len_of self.new ≡ block_len_of self.old }
         ensures time { Elapses (moment_of self.old) (moment_of self.new) (left_since_of self.old) (left_since_of self.new)
             (λ c. c ≡ contents_of self.new) }
+        ensures halt { halted_of self.new ↔ halted_of self.old }
         ensures faults { faults_of self.new ≡ (if is_ok result then faults_of self.old else counted (faults_of self.old)) }
         ensures cause { HasCause (faults_of self.old) (faults_of self.new) result }
     {
@@ -311,7 +323,8 @@ impl Flash for MemFlash {
         Ok(())
     }
 
-    // Beside what each flash promises: which erases fail, and what exactly each leaves.
+    /// Beside what each flash promises: which erases fail, and what exactly each leaves. `Failed` comes exactly where
+    /// the flash has stopped, no room is left, or the erase of this number is to be torn.
     fn erase(&mut self, block: u32) -> Result<(), Failed>
         requires { block < block_count_of self.old }
         ensures answer { IsOk result ↔ (ending_of (plan_of self.old) ≡ Done) }
@@ -327,21 +340,18 @@ impl Flash for MemFlash {
         ensures time { Elapses (moment_of self.old) (moment_of self.new) (left_since_of self.old) (left_since_of self.new)
             (λ c. Changes (block * block_len_of self.old) (block_len_of self.old) IsTornErase (contents_of self.old) c
             ⊎ (c ≡ contents_of self.new)) }
-        ensures counts { OnOk result ((t : ℕ) (c : List ℕ) → t ≤ moment_of self.old
+        ensures counts { (halted_of self.old → ⊥) → (t : ℕ) (c : List ℕ) → t ≤ moment_of self.old
             → Changes (block * block_len_of self.old) (block_len_of self.old) IsTornErase (contents_of self.old) c
-            → left_since_of self.new t c) }
-
-        // The same of a call that was torn.
-        ensures torn_counts { (ending_of (plan_of self.old) ≡ Refused → ⊥) → ((t : ℕ) (c : List ℕ) → t ≤ moment_of self.old
-            → Changes (block * block_len_of self.old) (block_len_of self.old) IsTornErase (contents_of self.old) c
-            → left_since_of self.new t c) }
+            → left_since_of self.new t c }
+        ensures halt { halted_of self.old → IsErr result × halted_of self.new }
         ensures faults { faults_of self.new ≡ (if is_ok result then faults_of self.old else counted (faults_of self.old)) }
         ensures cause { HasCause (faults_of self.old) (faults_of self.new) result }
     {
         self.change(Change::Erase(block * self.block_size, self.block_size))
     }
 
-    // Beside what each flash promises: which programs fail, and what exactly each leaves.
+    /// Beside what each flash promises: which programs fail, and what exactly each leaves. `Failed` comes exactly
+    /// where the flash has stopped, no room is left, or the program of this number is to be torn.
     fn program(&mut self, at: u32, bytes: &[u8]) -> Result<(), Failed>
         requires few { length bytes.now ≤ 256 }
         requires inside { at + length bytes.now ≤ block_count_of self.old * block_len_of self.old }
@@ -359,14 +369,10 @@ impl Flash for MemFlash {
         ensures time { Elapses (moment_of self.old) (moment_of self.new) (left_since_of self.old) (left_since_of self.new)
             (λ c. Changes at (length bytes.now) (IsTornProgram bytes.now) (contents_of self.old) c
             ⊎ (c ≡ contents_of self.new)) }
-        ensures counts { OnOk result ((t : ℕ) (c : List ℕ) → t ≤ moment_of self.old
+        ensures counts { (halted_of self.old → ⊥) → (t : ℕ) (c : List ℕ) → t ≤ moment_of self.old
             → Changes at (length bytes.now) (IsTornProgram bytes.now) (contents_of self.old) c
-            → left_since_of self.new t c) }
-
-        // The same of a call that was torn.
-        ensures torn_counts { (ending_of (plan_of self.old) ≡ Refused → ⊥) → ((t : ℕ) (c : List ℕ) → t ≤ moment_of self.old
-            → Changes at (length bytes.now) (IsTornProgram bytes.now) (contents_of self.old) c
-            → left_since_of self.new t c) }
+            → left_since_of self.new t c }
+        ensures halt { halted_of self.old → IsErr result × halted_of self.new }
         ensures faults { faults_of self.new ≡ (if is_ok result then faults_of self.old else counted (faults_of self.old)) }
         ensures cause { HasCause (faults_of self.old) (faults_of self.new) result }
     {

@@ -1,5 +1,5 @@
-// A flash in memory that never fails.
-ghost use Rattle.std.specs.Prelude.{◌≡◌, ◌+◌, ◌*◌, ◌^◌, ◌<◌, ◌≤◌, List, ℕ, length, replicate, IfOk, IsOk};
+//! A flash in memory that never fails.
+ghost use Rattle.std.specs.Prelude.{◌≡◌, ◌+◌, ◌*◌, ◌^◌, ◌<◌, ◌≤◌, List, ℕ, length, replicate, slice_index, IfOk, IsOk};
 ghost use Rattle.flash_dev.specs.Changes.{Changes, Holds, IsErased, IsProgrammed};
 
 use crate::Flash;
@@ -14,12 +14,14 @@ pub struct SureFlash {
     held: Vec<u8>,
     ghost whole: { length held.items ≡ blocks * block_size },
     ghost addressable: { blocks * block_size < 2 ^ 32 },
+    ghost bytes: { (k : ℕ) → slice_index held.items k ≤ 255 },
 }
 
 impl SureFlash {
     ghost use Rattle.flash_dev.specs.Sure.{sure_block_count, sure_block_len, sure_contents};
 
-    /// A flash of `blocks` blocks that is all 255.
+    /// A flash of `blocks` blocks of `block_size` bytes that is all 255. It has at most 4,294,967,295 bytes.
+    /// `NoMemory` is the one refusal.
     pub fn blank(alloc: Global, blocks: u32, block_size: u32) -> Result<SureFlash, NoMemory>
         requires { blocks * block_size < 2 ^ 32 }
         ensures contents { IfOk result (λ flash. sure_contents flash ≡ replicate (blocks * block_size) 255) }
@@ -59,7 +61,11 @@ impl Flash for SureFlash {
 
     ghost left_since = { λ _ _ _. ⊥ };
 
+    ghost halted = { λ _. ⊥ };
+
     ghost faults = { λ _. 0 };
+
+    ghost are_bytes = { λ _ m k. m.bytes k };
 
     ghost counts_now = { λ none _ _ _. absurd none };
 
@@ -73,6 +79,7 @@ impl Flash for SureFlash {
         self.block_size
     }
 
+    /// Never answers `Failed`.
     fn read(&mut self, at: u32, buf: &mut [u8]) -> Result<(), Failed>
         requires { at + length buf.old ≤ sure_block_count self.old * sure_block_len self.old }
         ensures sure { IsOk result }
@@ -84,6 +91,7 @@ impl Flash for SureFlash {
         Ok(())
     }
 
+    /// Never answers `Failed`.
     fn erase(&mut self, block: u32) -> Result<(), Failed>
         requires { block < sure_block_count self.old }
         ensures sure { IsOk result }
@@ -97,6 +105,7 @@ impl Flash for SureFlash {
         Ok(())
     }
 
+    /// Never answers `Failed`.
     fn program(&mut self, at: u32, bytes: &[u8]) -> Result<(), Failed>
         requires { at + length bytes.now ≤ sure_block_count self.old * sure_block_len self.old }
         ensures sure { IsOk result }
@@ -110,20 +119,22 @@ impl Flash for SureFlash {
     }
 }
 
-// Sets bytes to 255.
+/// Sets bytes to 255.
 fn fill_blank(held: &mut Vec<u8>, at: usize, len: usize)
     requires { at + len ≤ length held.old.items }
-    ensures { Changes at len IsErased held.old.items held.new.items }
+    ensures changes { Changes at len IsErased held.old.items held.new.items }
+    ensures bytes { (k : ℕ) → slice_index held.new.items k ≤ 255 }
 {
     for i in 0..len {
         held[at + i] = 255;
     }
 }
 
-// Writes bytes over others.
+/// Writes bytes over others.
 fn put(held: &mut Vec<u8>, at: usize, bytes: &[u8])
     requires { at + length bytes.now ≤ length held.old.items }
-    ensures { Changes at (length bytes.now) (IsProgrammed bytes.now) held.old.items held.new.items }
+    ensures changes { Changes at (length bytes.now) (IsProgrammed bytes.now) held.old.items held.new.items }
+    ensures bytes { (k : ℕ) → slice_index held.new.items k ≤ 255 }
 {
     for (i, byte) in bytes.iter().enumerate() {
         held[at + i] = *byte;

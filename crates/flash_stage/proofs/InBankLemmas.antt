@@ -3,13 +3,14 @@ use Rattle.std.proofs.Common.{◌≡◌, ◌≢◌, ◌⊎◌, inl, inr, ⊎_eli
 use Rattle.std.specs.Prelude.{Contains}
 use Rattle.std.proofs.lemmas.Bool.{cases_lt, eq-eqb}
 use Rattle.flash_dev.specs.Changes.{Changes, Holds, IsBlank, IsProgrammed}
-use Rattle.flash_bank.specs.Bank.{Fits, geometry_of, next_record, spare_bank, current_of}
+use Rattle.flash_bank.specs.Bank.{Fits, current_of, geometry_of, len_of, spare_bank}
 use Rattle.flash_bank.specs.Layout.{bank_len, bank_place}
 use Rattle.flash_bank.specs.Pairs.{part}
 use Rattle.flash_bank.specs.Sound.{image_of}
 use Rattle.flash_bank.specs.declared.bank.Bank.{Bank}
 use Rattle.flash_bank.proofs.PartLemmas.{part_held}
 use Rattle.flash_bank.proofs.Places.{bank_within, part_apart}
+use Rattle.flash_bank.specs.Record.{next_record}
 use Rattle.group_image.specs.Image.{bytes_at, bytes_of}
 use Rattle.group_image.proofs.ImageLaws.{joined_image, place_inside, places-le-total, places_apart}
 use Rattle.ssu_compat.specs.declared.rule.SwId.{SwId}
@@ -63,8 +64,8 @@ read_from bank c None = refl
 read_from bank c (Some p) = sym (take-drop-add (spare_bank bank) p.at p.len c)
 
 -- an erased bank is blank at each place
-pub blank_place : (plan : GroupPlan) (old new : Bank) (c : List ℕ) (n : ℕ) (p : Place) → SameBank old new → plan.total ≤ bank_len (geometry_of old)
-    → IsBlank c (spare_bank old) (bank_len (geometry_of old)) → place_of plan n ≡ Some p → IsBlank c (spare_bank new + p.at) p.len
+pub blank_place : (plan : GroupPlan) (old new : Bank) (c : List ℕ) (n : ℕ) (p : Place) → SameBank old new → plan.total ≤ len_of old
+    → IsBlank c (spare_bank old) (len_of old) → place_of plan n ≡ Some p → IsBlank c (spare_bank new + p.at) p.len
 blank_place plan old new c n p same fits blank e k lt =
     let inside = inside_plan plan n p e in
     let spot : spare_bank old + (p.at + k) ≡ spare_bank new + p.at + k = omega (arith, spare_bank_same old new same) in
@@ -93,7 +94,7 @@ still_bytes plan old new P x y n m q same f other changes = by_place (place_of p
 
 -- bytes that were programmed at a place stand there
 pub new_bytes : (plan : GroupPlan) (old new : Bank) (x y bytes : List ℕ) (n : ℕ) (q : Place) → SameBank old new → place_of plan n ≡ Some q → length bytes ≡ q.len → Fits new y
-    → plan.total ≤ bank_len (geometry_of new) → Changes (spare_bank old + q.at) (length bytes) (IsProgrammed bytes) x y → bytes_from (spare_bank new) y (place_of plan n) ≡ bytes
+    → plan.total ≤ len_of new → Changes (spare_bank old + q.at) (length bytes) (IsProgrammed bytes) x y → bytes_from (spare_bank new) y (place_of plan n) ≡ bytes
 new_bytes plan old new x y bytes n q same f long fits short changes =
     let g = geometry_of new in
     let inside = inside_plan plan n q f in
@@ -103,7 +104,7 @@ new_bytes plan old new x y bytes n q same f long fits short changes =
     ∙ part_held y bytes (spare_bank new + q.at) q.len long (omega (arith, within, inside, fits.sound.size)) (λ k lt. subst (λ (s : ℕ). get_or y (s + k) 0 ≡ get_or bytes k 0) spot (changes.inside k lt))
 
 -- bytes that were read are a part of the contents
-pub read_part : (bank : Bank) (c bytes : List ℕ) (at n : ℕ) → Fits bank c → length bytes ≡ n → at + n ≤ bank_len (geometry_of bank) → Holds c (spare_bank bank + at) bytes → part c (spare_bank bank + at) n ≡ bytes
+pub read_part : (bank : Bank) (c bytes : List ℕ) (at n : ℕ) → Fits bank c → length bytes ≡ n → at + n ≤ len_of bank → Holds c (spare_bank bank + at) bytes → part c (spare_bank bank + at) n ≡ bytes
 read_part bank c bytes at n fits long inside holds =
     let g = geometry_of bank in
     let within : bank_place g (1 - (current_of bank).bank) + bank_len g ≤ g.blocks * g.block_len = bank_within g bank.limits (1 - (current_of bank).bank) (omega arith) in
@@ -151,7 +152,7 @@ other_number marked n q set free same = let is : marked n ≡ marked q = ap mark
 
 -- the image that its places join to
 pub whole_bank : (s : BankStage) (bank : Bank) (c : List ℕ) → IsBegun s bank → (software : SwId) (group : ℕ)
-    → image_of (geometry_of bank) c (next_record bank s.total software group) ≡ group_text (bytes_in_bank s bank c) (outline_in_bank s)
+    → image_of (geometry_of bank) c (next_record (current_of bank) s.total software group) ≡ group_text (bytes_in_bank s bank c) (outline_in_bank s)
 unfolding bytes_in_bank bytes_at
 whole_bank s bank c begun software group =
     sym (joined_image (plan_in_bank s bank begun) (record { map = s.map; total = s.total; buffer = drop (spare_bank bank) c }) (bytes_in_bank s bank c) (record { places = refl; total = refl })

@@ -2,8 +2,7 @@
 use Rattle.std.specs.Prelude.{◌≡◌, ℕ, ◌+◌, ◌≤◌, Bool, true, false, List, [], Option, None, Some}
 use Rattle.std.proofs.Common.{ap}
 use Rattle.flash_dev.specs.Changes.{IsBlank}
-use Rattle.flash_bank.specs.Bank.{geometry_of, is_begun, spare_bank}
-use Rattle.flash_bank.specs.Layout.{bank_len}
+use Rattle.flash_bank.specs.Bank.{is_begun, len_of, spare_bank}
 use Rattle.flash_bank.specs.declared.bank.Bank.{Bank}
 use Rattle.ssu_group.specs.Map.{marked}
 use Rattle.ssu_group.specs.Place.{place_at}
@@ -37,7 +36,7 @@ bytes_in_bank s bank contents number = bytes_from (spare_bank bank) contents (pl
 -- It began a group that fits the bank, which was begun for it.
 pub record IsBegun (s : BankStage) (bank : Bank) : Type 0 where
   pub planned : IsPlan s.block_size s.modules.items s.map.places s.total
-  pub fits : s.total ≤ bank_len (geometry_of bank)
+  pub fits : s.total ≤ len_of bank
   pub begun : is_begun bank ≡ true
 
 -- Each place that is not staged is blank in the spare bank.

@@ -1,8 +1,7 @@
 -- What is seen of a stage in memory.
 use Rattle.std.specs.Prelude.{◌≡◌, ℕ, ◌≤◌, Bool, false, true, List}
 use Rattle.std.proofs.lemmas.Bool.{false≢true}
-use Rattle.flash_bank.specs.Bank.{geometry_of}
-use Rattle.flash_bank.specs.Layout.{bank_len}
+use Rattle.flash_bank.specs.Bank.{len_of}
 use Rattle.flash_bank.specs.declared.bank.Bank.{Bank}
 use Rattle.group_image.specs.Image.{bytes_of, is_there}
 use Rattle.ssu_group.specs.Place.{place_at}
@@ -29,7 +28,7 @@ bytes_in s bank contents number = bytes_of s.image.buffer (place_at s.block_size
 -- It began a group that fits the bank.
 pub record IsStarted (s : RamStage) (bank : Bank) : Type 0 where
   pub planned : IsPlan s.block_size s.modules.items s.image.map.places s.image.total
-  pub fits : s.image.total ≤ bank_len (geometry_of bank)
+  pub fits : s.image.total ≤ len_of bank
 
 -- what stands for a place is not in the bank
 pub not_in_bank : {A : Type 0} → false ≡ true → A

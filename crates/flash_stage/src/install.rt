@@ -2,9 +2,10 @@
 
 ghost use Rattle.std.specs.Prelude.{◌≡◌, ◌-◌, ◌<◌, ◌≤◌, OnErr, OnOk, false, length, true};
 ghost use Rattle.flash_dev.specs.Moments.{LeavesOnly};
-ghost use Rattle.flash_bank.specs.Bank.{IsLent, block_of, current_of, geometry_of, is_begun, is_spent, next_record};
-ghost use Rattle.flash_bank.specs.Layout.{bank_len};
-ghost use Rattle.flash_stage.specs.Leaving.{FinishLeaves, Installs, SameBank};
+ghost use Rattle.flash_bank.specs.Bank.{IsLent, block_of, current_of, geometry_of, is_begun, is_spent, len_of};
+ghost use Rattle.flash_bank.specs.Leaving.{Installs};
+ghost use Rattle.flash_bank.specs.Record.{next_record};
+ghost use Rattle.flash_stage.specs.Leaving.{FinishLeaves, SameBank};
 ghost use Rattle.ssu_io.specs.Faults.{HasCause};
 
 use flash_bank::{Bank, FlashFault};
@@ -20,21 +21,22 @@ pub(crate) fn install<F: Flash>(
     group: u32,
 ) -> Result<(), FlashFault>
     requires lent { IsLent F.tells F.contents F.block_count F.block_len bank.old flash.old }
-    requires inside { length image.now ≤ bank_len (geometry_of bank.old) }
+    requires inside { length image.now ≤ len_of bank.old }
     requires next_fits { (current_of bank.old).number < 4294967295 }
     ensures lent { OnOk result (IsLent F.tells F.contents F.block_count F.block_len bank.new flash.new) }
-    ensures current { OnOk result (current_of bank.new ≡ next_record bank.old (length image.now) software group) }
+    ensures current { OnOk result (current_of bank.new ≡ next_record (current_of bank.old) (length image.now) software group) }
     ensures block { OnOk result (block_of bank.new ≡ 1 - block_of bank.old) }
-    ensures done { F.tells → OnOk result (Installs bank.old (next_record bank.old (length image.now) software group)
+    ensures done { F.tells → OnOk result (Installs (geometry_of bank.old) (next_record (current_of bank.old) (length image.now) software group)
         image.now (F.contents flash.old) (F.contents flash.new)) }
-    ensures held { F.tells → FinishLeaves bank.old (next_record bank.old (length image.now) software group)
+    ensures held { F.tells → FinishLeaves (geometry_of bank.old) (next_record (current_of bank.old) (length image.now) software group)
         image.now (F.contents flash.old) (F.contents flash.new) }
     ensures left { F.tells → LeavesOnly F.moment F.left_since flash.old flash.new
-        (FinishLeaves bank.old (next_record bank.old (length image.now) software group) image.now (F.contents flash.old)) }
+        (FinishLeaves (geometry_of bank.old) (next_record (current_of bank.old) (length image.now) software group) image.now (F.contents flash.old)) }
     ensures begun { OnOk result (is_begun bank.new ≡ false) }
     ensures spent { OnErr result (is_spent bank.new ≡ true) }
     ensures same_bank { OnErr result (SameBank bank.old bank.new) }
     ensures geometry { geometry_of bank.new ≡ geometry_of bank.old }
+    ensures len { len_of bank.new ≡ len_of bank.old }
     ensures blocks { F.block_count flash.new ≡ F.block_count flash.old }
     ensures block_size { F.block_len flash.new ≡ F.block_len flash.old }
     ensures cause { HasCause (F.faults flash.old) (F.faults flash.new) result }

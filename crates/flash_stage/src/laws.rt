@@ -1,11 +1,13 @@
 //! What a loader may build on, each law as the contract of a function that does nothing.
 
 ghost use Rattle.std.specs.Prelude.{◌≡◌, ◌+◌, ◌<◌, Contains, List, [], length, ℕ, unwrap_or, Some};
-ghost use Rattle.flash_bank.specs.Bank.{Fits, geometry_of};
-ghost use Rattle.flash_bank.specs.Sound.{IsSound};
+ghost use Rattle.flash_bank.specs.Bank.{len_of};
+ghost use Rattle.flash_bank.specs.Layout.{Geometry};
+ghost use Rattle.flash_bank.specs.Leaving.{Installs, KeepsBoot};
+ghost use Rattle.flash_bank.specs.Sound.{IsCurrent, IsSound};
 ghost use Rattle.flash_bank.specs.declared.bank.Bank.{Bank};
 ghost use Rattle.flash_bank.specs.declared.record.Record.{Record};
-ghost use Rattle.flash_stage.specs.Leaving.{FinishLeaves, Installs, SameBank, StageLeaves};
+ghost use Rattle.flash_stage.specs.Leaving.{FinishLeaves, SameBank};
 ghost use Rattle.flash_stage.specs.Outline.{module_text, outline_of};
 ghost use Rattle.ssu_group.specs.Carried.{carried_image, filling, joined, missing_places, module_bytes};
 ghost use Rattle.ssu_group.specs.Place.{place_at};
@@ -16,21 +18,17 @@ ghost use Rattle.ssu_group.specs.declared.places.Place.{Place};
 /// What one call of a stage may leave, and then another, is what a call may leave: so it holds for all calls up to
 /// `finish`, and with `finish`.
 pub fn calls_go_on()
-    ensures none { (bank : Bank) (x : List ℕ) → IsSound (geometry_of bank) x → StageLeaves bank x x }
-    ensures more { (bank : Bank) (x y z : List ℕ) → StageLeaves bank x y → StageLeaves bank y z → StageLeaves bank x z }
-    ensures finish { (bank : Bank) (new : Record) (image x y z : List ℕ) → Fits bank x → StageLeaves bank x y
-        → FinishLeaves bank new image y z → FinishLeaves bank new image x z }
-    ensures installs { (bank : Bank) (new : Record) (image x y z : List ℕ) → Fits bank x → StageLeaves bank x y
-        → Installs bank new image y z → Installs bank new image x z }
+    ensures none { (g : Geometry) (x : List ℕ) → IsSound g x → KeepsBoot g x x }
+    ensures more { (g : Geometry) (x y z : List ℕ) → KeepsBoot g x y → KeepsBoot g y z → KeepsBoot g x z }
+    ensures finish { (g : Geometry) (new : Record) (image x y z : List ℕ) (block : ℕ) → IsCurrent g x block → KeepsBoot g x y
+        → FinishLeaves g new image y z → FinishLeaves g new image x z }
+    ensures installs { (g : Geometry) (new : Record) (image x y z : List ℕ) (block : ℕ) → IsCurrent g x block → KeepsBoot g x y
+        → Installs g new image y z → Installs g new image x z }
 {}
 
-/// The same may be left of a bank as long as it is as it was.
+/// A bank that is as it was has the length that it had, call by call.
 pub fn banks_stay()
-    ensures leaves { (old new : Bank) (x y : List ℕ) → SameBank old new → StageLeaves new x y → StageLeaves old x y }
-    ensures finish { (old new : Bank) (head : Record) (image x y : List ℕ) → SameBank old new
-        → FinishLeaves new head image x y → FinishLeaves old head image x y }
-    ensures installs { (old new : Bank) (head : Record) (image x y : List ℕ) → SameBank old new
-        → Installs new head image x y → Installs old head image x y }
+    ensures len { (old new : Bank) → SameBank old new → len_of new ≡ len_of old }
     ensures joined { (first second third : Bank) → SameBank first second → SameBank second third → SameBank first third }
 {}
 

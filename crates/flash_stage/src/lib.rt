@@ -8,8 +8,6 @@ mod modules;
 mod ram_stage;
 mod read_back;
 mod stage;
-#[cfg(test)]
-mod tests;
 
 pub use bank_stage::BankStage;
 pub use laws::{banks_stay, calls_go_on, modules_join_their_places, same_modules_have_one_outline};

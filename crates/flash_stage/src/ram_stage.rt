@@ -28,16 +28,7 @@ pub struct RamStage {
 }
 
 impl Stage for RamStage {
-    ghost use Rattle.std.specs.Prelude.{◌≢◌, ◌+◌, Contains, IfOk, OnErr, OnOk, true, ℕ};
-    ghost use Rattle.flash_dev.specs.Moments.{LeavesOnly};
-    ghost use Rattle.flash_bank.specs.Bank.{IsLent, current_of, geometry_of, is_begun, is_spent};
-    ghost use Rattle.flash_bank.specs.Layout.{bank_len};
-    ghost use Rattle.flash_bank.specs.Runs.{OnlyReads};
-    ghost use Rattle.flash_stage.specs.Leaving.{SameBank, StageLeaves};
-    ghost use Rattle.flash_stage.specs.Outline.{IsPlaceOf, module_text, outline_of};
     ghost use Rattle.flash_stage.specs.Ram.{IsStarted, bytes_in, has_in, most_of, not_in_bank, outline_in};
-    ghost use Rattle.ssu_io.specs.Faults.{HasCause};
-    ghost use Rattle.ts_crc.specs.Crc.{crc_of};
 
     ghost most = { most_of };
 
@@ -67,74 +58,25 @@ impl Stage for RamStage {
         })
     }
 
-    // Beside what each stage promises: flash and bank are left alone.
     fn start<F: Flash>(
         &mut self,
         _bank: &mut Bank,
         _flash: &mut F,
         plan: &GroupPlan,
-    ) -> Result<(), FlashFault>
-        requires lent { IsLent F.tells F.contents F.block_count F.block_len _bank.old _flash.old }
-        requires made_for { most_of self.old ≡ bank_len (geometry_of _bank.old) }
-        requires inside { plan.now.total ≤ bank_len (geometry_of _bank.old) }
-        requires next_fits { (current_of _bank.old).number < 4294967295 }
-        ensures flash_alone { _flash.new ≡ _flash.old }
-        ensures bank_alone { _bank.new ≡ _bank.old }
-        ensures lent { OnOk result (IsLent F.tells F.contents F.block_count F.block_len _bank.new _flash.new) }
-        ensures ready { OnOk result (IsStarted self.new _bank.new) }
-        ensures plan { OnOk result (outline_in self.new ≡ outline_of plan.now) }
-        ensures empty { OnOk result ((number : ℕ) → number < plan.now.places → has_in self.new number ≡ false) }
-        ensures held { F.tells → StageLeaves _bank.old (F.contents _flash.old) (F.contents _flash.new) }
-        ensures left { F.tells → LeavesOnly F.moment F.left_since _flash.old _flash.new
-            (StageLeaves _bank.old (F.contents _flash.old)) }
-        ensures begun { OnOk result (is_begun _bank.old ≡ true → is_begun _bank.new ≡ true) }
-        ensures spent { OnErr result (is_spent _bank.new ≡ true) }
-        ensures same_bank { SameBank _bank.old _bank.new }
-        ensures most { most_of self.new ≡ most_of self.old }
-        ensures blocks { F.block_count _flash.new ≡ F.block_count _flash.old }
-        ensures block_size { F.block_len _flash.new ≡ F.block_len _flash.old }
-        ensures cause { HasCause (F.faults _flash.old) (F.faults _flash.new) result }
-    {
+    ) -> Result<(), FlashFault> {
         self.block_size = plan.block_size;
         replace(&mut self.modules, plan.modules.as_slice());
         self.image.start(plan);
         Ok(())
     }
 
-    // Beside what each stage promises: flash and bank are left alone.
     fn offer<F: Flash>(
         &mut self,
         _bank: &mut Bank,
         _flash: &mut F,
         place: Place,
         bytes: &[u8],
-    ) -> Result<(), FlashFault>
-        requires lent { IsLent F.tells F.contents F.block_count F.block_len _bank.old _flash.old }
-        requires ready { IsStarted self.old _bank.old }
-        requires place { IsPlaceOf (outline_in self.old) place }
-        requires length { length bytes.now ≡ place.len }
-        ensures flash_alone { _flash.new ≡ _flash.old }
-        ensures bank_alone { _bank.new ≡ _bank.old }
-        ensures lent { OnOk result (IsLent F.tells F.contents F.block_count F.block_len _bank.new _flash.new) }
-        ensures ready { OnOk result (IsStarted self.new _bank.new) }
-        ensures plan { outline_in self.new ≡ outline_in self.old }
-        ensures added { OnOk result (has_in self.new place.number ≡ true) }
-        ensures others { OnOk result ((number : ℕ) → number ≢ place.number → has_in self.new number ≡ has_in self.old number) }
-        ensures new_bytes { F.tells → has_in self.old place.number ≡ false
-            → OnOk result (bytes_in self.new _bank.new (F.contents _flash.new) place.number ≡ bytes.now) }
-        ensures old_bytes { F.tells → OnOk result ((number : ℕ) → has_in self.old number ≡ true
-            → bytes_in self.new _bank.new (F.contents _flash.new) number ≡ bytes_in self.old _bank.old (F.contents _flash.old) number) }
-        ensures held { F.tells → StageLeaves _bank.old (F.contents _flash.old) (F.contents _flash.new) }
-        ensures left { F.tells → LeavesOnly F.moment F.left_since _flash.old _flash.new
-            (StageLeaves _bank.old (F.contents _flash.old)) }
-        ensures begun { OnOk result (is_begun _bank.old ≡ true → is_begun _bank.new ≡ true) }
-        ensures spent { OnErr result (is_spent _bank.new ≡ true) }
-        ensures same_bank { SameBank _bank.old _bank.new }
-        ensures most { most_of self.new ≡ most_of self.old }
-        ensures blocks { F.block_count _flash.new ≡ F.block_count _flash.old }
-        ensures block_size { F.block_len _flash.new ≡ F.block_len _flash.old }
-        ensures cause { HasCause (F.faults _flash.old) (F.faults _flash.new) result }
-    {
+    ) -> Result<(), FlashFault> {
         self.image.offer(place, bytes);
         Ok(())
     }
@@ -143,34 +85,12 @@ impl Stage for RamStage {
         self.image.missing()
     }
 
-    // Beside what each stage promises: flash and bank are left alone.
     fn module_crc<F: Flash>(
         &mut self,
         _bank: &mut Bank,
         _flash: &mut F,
         module: &ModulePlan,
-    ) -> Result<u32, FlashFault>
-        requires lent { IsLent F.tells F.contents F.block_count F.block_len _bank.old _flash.old }
-        requires ready { IsStarted self.old _bank.old }
-        requires module { Contains (outline_in self.old).modules «module».now }
-        requires whole { (k : ℕ) → k < «module».now.blocks → has_in self.old («module».now.first + k) ≡ true }
-        ensures flash_alone { _flash.new ≡ _flash.old }
-        ensures bank_alone { _bank.new ≡ _bank.old }
-        ensures lent { OnOk result (IsLent F.tells F.contents F.block_count F.block_len _bank.new _flash.new) }
-        ensures ready { OnOk result (IsStarted self.new _bank.new) }
-        ensures plan { outline_in self.new ≡ outline_in self.old }
-        ensures crc { F.tells → IfOk result (λ crc. crc
-            ≡ crc_of (module_text (bytes_in self.old _bank.old (F.contents _flash.old)) «module».now)) }
-        ensures same { (number : ℕ) → has_in self.new number ≡ has_in self.old number }
-        ensures same_bytes { F.tells → (number : ℕ)
-            → bytes_in self.new _bank.new (F.contents _flash.new) number ≡ bytes_in self.old _bank.old (F.contents _flash.old) number }
-        ensures reads { OnlyReads F.tells F.contents F.block_count F.block_len F.moment F.left_since _flash.old _flash.new }
-        ensures begun { is_begun _bank.new ≡ is_begun _bank.old }
-        ensures spent { OnErr result (is_spent _bank.new ≡ true) }
-        ensures same_bank { SameBank _bank.old _bank.new }
-        ensures most { most_of self.new ≡ most_of self.old }
-        ensures cause { HasCause (F.faults _flash.old) (F.faults _flash.new) result }
-    {
+    ) -> Result<u32, FlashFault> {
         Ok(self.image.module_crc(module))
     }
 

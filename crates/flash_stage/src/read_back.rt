@@ -1,8 +1,7 @@
 //! The CRC of bytes that stand in the spare bank.
 
 ghost use Rattle.std.specs.Prelude.{◌≡◌, ◌+◌, ◌++◌, ◌≤◌, IfOk, List, OnErr, OnOk, length, true, ℕ};
-ghost use Rattle.flash_bank.specs.Bank.{IsLent, geometry_of, is_begun, is_spent, spare_bank};
-ghost use Rattle.flash_bank.specs.Layout.{bank_len};
+ghost use Rattle.flash_bank.specs.Bank.{IsLent, is_begun, is_spent, len_of, spare_bank};
 ghost use Rattle.flash_bank.specs.Pairs.{part};
 ghost use Rattle.flash_bank.specs.Runs.{OnlyReads};
 ghost use Rattle.flash_stage.specs.Leaving.{SameBank};
@@ -24,7 +23,7 @@ pub(crate) fn crc_of_range<F: Flash>(
     len: u32,
 ) -> Result<u32, FlashFault>
     requires lent { IsLent F.tells F.contents F.block_count F.block_len bank.old flash.old }
-    requires inside { at + len ≤ bank_len (geometry_of bank.old) }
+    requires inside { at + len ≤ len_of bank.old }
     ensures lent { OnOk result (IsLent F.tells F.contents F.block_count F.block_len bank.new flash.new) }
     ensures crc { F.tells → IfOk result (λ crc. crc ≡ crc_of (part (F.contents flash.old) (spare_bank bank.old + at) len)) }
     ensures reads { OnlyReads F.tells F.contents F.block_count F.block_len F.moment F.left_since flash.old flash.new }
@@ -53,7 +52,7 @@ fn push_some<F: Flash>(
 ) -> Result<(), FlashFault>
     requires lent { IsLent F.tells F.contents F.block_count F.block_len bank.old flash.old }
     requires few { len ≤ 256 }
-    requires inside { at + len ≤ bank_len (geometry_of bank.old) }
+    requires inside { at + len ≤ len_of bank.old }
     ensures lent { OnOk result (IsLent F.tells F.contents F.block_count F.block_len bank.new flash.new) }
     ensures join { F.tells → OnOk result ((before : List ℕ) → register.old ≡ crc_of before
         → register.new ≡ crc_of (before ++ part (F.contents flash.old) (spare_bank bank.old + at) len)) }
@@ -76,7 +75,7 @@ fn push_piece<F: Flash>(
     register: &mut Register,
 ) -> Result<(), FlashFault>
     requires lent { IsLent F.tells F.contents F.block_count F.block_len bank.old flash.old }
-    requires inside { at + length piece.old ≤ bank_len (geometry_of bank.old) }
+    requires inside { at + length piece.old ≤ len_of bank.old }
     ensures lent { OnOk result (IsLent F.tells F.contents F.block_count F.block_len bank.new flash.new) }
     ensures join { F.tells → OnOk result ((before : List ℕ) → register.old ≡ crc_of before
         → register.new ≡ crc_of (before ++ part (F.contents flash.old) (spare_bank bank.old + at) (length piece.old))) }

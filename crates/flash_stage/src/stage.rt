@@ -2,12 +2,13 @@
 
 ghost use Rattle.std.specs.Prelude.{◌≡◌, ◌≢◌, ◌+◌, ◌-◌, ◌<◌, ◌≤◌, Bool, Contains, IfOk, List, OnErr, OnOk, Some, true, false, length, ℕ};
 ghost use Rattle.flash_dev.specs.Moments.{LeavesOnly};
-ghost use Rattle.flash_bank.specs.Bank.{IsLent, block_of, current_of, geometry_of, is_begun, is_spent, next_record, spare_bank};
-ghost use Rattle.flash_bank.specs.Layout.{bank_len};
+ghost use Rattle.flash_bank.specs.Bank.{IsLent, block_of, current_of, geometry_of, is_begun, is_spent, len_of, spare_bank};
+ghost use Rattle.flash_bank.specs.Leaving.{Installs, KeepsBoot};
 ghost use Rattle.flash_bank.specs.Pairs.{part};
+ghost use Rattle.flash_bank.specs.Record.{next_record};
 ghost use Rattle.flash_bank.specs.Runs.{OnlyReads};
 ghost use Rattle.flash_bank.specs.declared.bank.Bank.{Bank};
-ghost use Rattle.flash_stage.specs.Leaving.{FinishLeaves, Installs, SameBank, StageLeaves};
+ghost use Rattle.flash_stage.specs.Leaving.{FinishLeaves, SameBank};
 ghost use Rattle.flash_stage.specs.Outline.{IsPlaceOf, Outline, group_text, module_text, outline_of, place_of};
 ghost use Rattle.ssu_group.specs.Map.{missing_below};
 ghost use Rattle.ssu_group.specs.declared.places.Place.{Place};
@@ -24,9 +25,10 @@ use std::alloc::Global;
 /// Where the places of a group are staged until the group is whole, and how it is installed then. Up to `finish` boot
 /// takes what it took, whenever the power goes; from then on that, or the whole new image.
 ///
+/// Where nothing of it is staged in the bank (`IN_BANK` is false), flash and bank are as they were up to `finish`.
 /// Only `make` takes memory. A bank that is lent to a call was not spent, and after a fault of the flash it is.
 pub trait Stage: Sized + Drop {
-    /// The length of the bank that it was made for.
+    /// The length in bytes of the bank that it was made for.
     ghost most: { Self → ℕ };
 
     /// The plan of the group that it began.
@@ -50,11 +52,12 @@ pub trait Stage: Sized + Drop {
     /// Whether what is staged stands in the spare bank.
     const IN_BANK: bool;
 
-    /// A stage for a bank of this length. All its memory is taken here.
+    /// A stage for this bank. All its memory is taken here. `NoMemory` is the one refusal.
     fn make(alloc: Global, bank: &Bank) -> Result<Self, NoMemory>
-        ensures most { IfOk result (λ stage. most stage ≡ bank_len (geometry_of bank.now)) };
+        ensures most { IfOk result (λ stage. most stage ≡ len_of bank.now) };
 
-    /// Begins the group of this plan, with no place staged.
+    /// Begins the group of this plan, which has at most the bytes of a bank, with no place staged. `FlashFault` comes
+    /// only where the flash failed and its count of faults rose; the bank is spent then.
     fn start<F: Flash>(
         &mut self,
         bank: &mut Bank,
@@ -62,17 +65,19 @@ pub trait Stage: Sized + Drop {
         plan: &GroupPlan,
     ) -> Result<(), FlashFault>
         requires lent { IsLent F.tells F.contents F.block_count F.block_len bank.old flash.old }
-        requires made_for { most self.old ≡ bank_len (geometry_of bank.old) }
-        requires inside { plan.now.total ≤ bank_len (geometry_of bank.old) }
+        requires made_for { most self.old ≡ len_of bank.old }
+        requires inside { plan.now.total ≤ len_of bank.old }
         requires next_fits { (current_of bank.old).number < 4294967295 }
         ensures lent { OnOk result (IsLent F.tells F.contents F.block_count F.block_len bank.new flash.new) }
         ensures ready { OnOk result (ready self.new bank.new) }
         ensures agrees { F.tells → OnOk result (agrees self.new bank.new (F.contents flash.new)) }
         ensures plan { OnOk result (plan_of self.new ≡ outline_of plan.now) }
         ensures empty { OnOk result ((number : ℕ) → number < plan.now.places → has self.new number ≡ false) }
-        ensures held { F.tells → StageLeaves bank.old (F.contents flash.old) (F.contents flash.new) }
+        ensures held { F.tells → KeepsBoot (geometry_of bank.old) (F.contents flash.old) (F.contents flash.new) }
         ensures left { F.tells → LeavesOnly F.moment F.left_since flash.old flash.new
-            (StageLeaves bank.old (F.contents flash.old)) }
+            (KeepsBoot (geometry_of bank.old) (F.contents flash.old)) }
+        ensures alone { IN_BANK ≡ false → flash.new ≡ flash.old }
+        ensures bank_alone { IN_BANK ≡ false → bank.new ≡ bank.old }
         ensures begun { OnOk result (is_begun bank.old ≡ true → is_begun bank.new ≡ true) }
         ensures spent { OnErr result (is_spent bank.new ≡ true) }
         ensures same_bank { SameBank bank.old bank.new }
@@ -81,7 +86,8 @@ pub trait Stage: Sized + Drop {
         ensures block_size { F.block_len flash.new ≡ F.block_len flash.old }
         ensures cause { HasCause (F.faults flash.old) (F.faults flash.new) result };
 
-    /// Stages the bytes of a place. One that is staged already keeps its first bytes.
+    /// Stages the bytes of a place, as many as the place has. One that is staged already keeps its first bytes.
+    /// `FlashFault` comes only where the flash failed and its count of faults rose; the bank is spent then.
     fn offer<F: Flash>(
         &mut self,
         bank: &mut Bank,
@@ -104,9 +110,11 @@ pub trait Stage: Sized + Drop {
             → OnOk result (bytes_at self.new bank.new (F.contents flash.new) place.number ≡ bytes.now) }
         ensures old_bytes { F.tells → OnOk result ((number : ℕ) → has self.old number ≡ true
             → bytes_at self.new bank.new (F.contents flash.new) number ≡ bytes_at self.old bank.old (F.contents flash.old) number) }
-        ensures held { F.tells → StageLeaves bank.old (F.contents flash.old) (F.contents flash.new) }
+        ensures held { F.tells → KeepsBoot (geometry_of bank.old) (F.contents flash.old) (F.contents flash.new) }
         ensures left { F.tells → LeavesOnly F.moment F.left_since flash.old flash.new
-            (StageLeaves bank.old (F.contents flash.old)) }
+            (KeepsBoot (geometry_of bank.old) (F.contents flash.old)) }
+        ensures alone { IN_BANK ≡ false → flash.new ≡ flash.old }
+        ensures bank_alone { IN_BANK ≡ false → bank.new ≡ bank.old }
         ensures begun { OnOk result (is_begun bank.old ≡ true → is_begun bank.new ≡ true) }
         ensures spent { OnErr result (is_spent bank.new ≡ true) }
         ensures same_bank { SameBank bank.old bank.new }
@@ -119,7 +127,8 @@ pub trait Stage: Sized + Drop {
     fn missing(&self) -> u32
         ensures { result ≡ missing_below (has self.now) (plan_of self.now).places };
 
-    /// The CRC of the bytes of a module, all of whose places are staged. It changes nothing.
+    /// The CRC of the bytes of a module, all of whose places are staged. It changes nothing of what is staged.
+    /// `FlashFault` comes only where the flash failed and its count of faults rose; the bank is spent then.
     fn module_crc<F: Flash>(
         &mut self,
         bank: &mut Bank,
@@ -141,6 +150,8 @@ pub trait Stage: Sized + Drop {
         ensures same_bytes { F.tells → (number : ℕ)
             → bytes_at self.new bank.new (F.contents flash.new) number ≡ bytes_at self.old bank.old (F.contents flash.old) number }
         ensures reads { OnlyReads F.tells F.contents F.block_count F.block_len F.moment F.left_since flash.old flash.new }
+        ensures alone { IN_BANK ≡ false → flash.new ≡ flash.old }
+        ensures bank_alone { IN_BANK ≡ false → bank.new ≡ bank.old }
         ensures begun { is_begun bank.new ≡ is_begun bank.old }
         ensures spent { OnErr result (is_spent bank.new ≡ true) }
         ensures same_bank { SameBank bank.old bank.new }
@@ -148,6 +159,8 @@ pub trait Stage: Sized + Drop {
         ensures cause { HasCause (F.faults flash.old) (F.faults flash.new) result };
 
     /// Installs the group, of which no place is missing: the places, joined, become the image of the next record.
+    /// `FlashFault` comes only where the flash failed and its count of faults rose: boot takes what it took, or the
+    /// whole new image, and the bank is spent.
     fn finish<F: Flash>(
         &mut self,
         bank: &mut Bank,
@@ -161,22 +174,23 @@ pub trait Stage: Sized + Drop {
         requires whole { missing_below (has self.old) (plan_of self.old).places ≡ 0 }
         requires next_fits { (current_of bank.old).number < 4294967295 }
         ensures lent { OnOk result (IsLent F.tells F.contents F.block_count F.block_len bank.new flash.new) }
-        ensures current { OnOk result (current_of bank.new ≡ next_record bank.old (plan_of self.old).total software group) }
+        ensures current { OnOk result (current_of bank.new ≡ next_record (current_of bank.old) (plan_of self.old).total software group) }
         ensures block { OnOk result (block_of bank.new ≡ 1 - block_of bank.old) }
-        ensures done { F.tells → OnOk result (Installs bank.old (next_record bank.old (plan_of self.old).total software group)
+        ensures done { F.tells → OnOk result (Installs (geometry_of bank.old) (next_record (current_of bank.old) (plan_of self.old).total software group)
             (group_text (bytes_at self.old bank.old (F.contents flash.old)) (plan_of self.old))
             (F.contents flash.old) (F.contents flash.new)) }
-        ensures held { F.tells → FinishLeaves bank.old (next_record bank.old (plan_of self.old).total software group)
+        ensures held { F.tells → FinishLeaves (geometry_of bank.old) (next_record (current_of bank.old) (plan_of self.old).total software group)
             (group_text (bytes_at self.old bank.old (F.contents flash.old)) (plan_of self.old))
             (F.contents flash.old) (F.contents flash.new) }
         ensures left { F.tells → LeavesOnly F.moment F.left_since flash.old flash.new
-            (FinishLeaves bank.old (next_record bank.old (plan_of self.old).total software group)
+            (FinishLeaves (geometry_of bank.old) (next_record (current_of bank.old) (plan_of self.old).total software group)
             (group_text (bytes_at self.old bank.old (F.contents flash.old)) (plan_of self.old))
             (F.contents flash.old)) }
         ensures begun { OnOk result (is_begun bank.new ≡ false) }
         ensures spent { OnErr result (is_spent bank.new ≡ true) }
         ensures same_bank { OnErr result (SameBank bank.old bank.new) }
         ensures geometry { geometry_of bank.new ≡ geometry_of bank.old }
+        ensures len { len_of bank.new ≡ len_of bank.old }
         ensures most { most self.new ≡ most self.old }
         ensures blocks { F.block_count flash.new ≡ F.block_count flash.old }
         ensures block_size { F.block_len flash.new ≡ F.block_len flash.old }

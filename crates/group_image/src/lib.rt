@@ -3,8 +3,6 @@
 
 mod image;
 mod laws;
-#[cfg(test)]
-mod tests;
 
 pub use image::GroupImage;
 pub use laws::{places_join_to_image, whole_image_has_all_bytes};

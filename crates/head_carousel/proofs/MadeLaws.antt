@@ -1,15 +1,16 @@
 -- Sections in the long form are well made.
-use Rattle.std.proofs.Common.{◌≡◌, ◌≢◌, ℕ, ◌+◌, ◌<◌, ◌≤◌, ◌^◌, ◌⊎◌, inl, inr, Bool, true, false, List, [], length, get_or, sym, ◌∙◌, subst, arith}
+use Rattle.std.proofs.Common.{◌≡◌, ◌≢◌, ℕ, ◌+◌, ◌<◌, ◌≤◌, ◌^◌, ◌⊎◌, inl, inr, Bool, true, false, List, [], ◌++◌, length, get_or, sym, ◌∙◌, subst, arith}
 use Rattle.std.proofs.lemmas.List.{length-append}
 use Rattle.section_form.specs.Long.{LongFields}
-use Rattle.section_form.specs.Written.{long_bytes, long_text}
+use Rattle.section_form.specs.Written.{long_bytes, long_text, only_section}
 use Rattle.section_form.proofs.LongLaws.{Fits, long_right}
 use Rattle.si_desc.specs.Descriptors.{IsRow}
 use Rattle.si_desc.proofs.RowLaws.{empty_row}
 use Rattle.si_table.specs.Tables.{ProgramFields}
-use Rattle.si_table.specs.Written.{head, net_bytes, net_body_bytes, pat_bytes, program_bytes, PmtDraft, pmt_bytes, pmt_body_bytes}
-use Rattle.timed_section.specs.TimedSection.{TimedSection}
+use Rattle.si_table.specs.Written.{entry_bytes, net_bytes, net_body_bytes, pat_bytes, program_bytes, PmtDraft, pmt_bytes, pmt_body_bytes}
+use Rattle.ts_section.specs.TimedSection.{TimedSection}
 use Rattle.ts_section.proofs.CutHeard.{right_heard}
+use Rattle.wire.specs.Number.{length_bytes}
 use Rattle.head_carousel.specs.WellMade.{IsHeard, IsReady, IsWellMade}
 
 pub long_made : (second_bit : Bool) (head : LongFields) (s : List ℕ) → Fits head → head.table ≢ 0x70 → head.table ≢ 0xFF → s ≡ long_bytes second_bit head → IsWellMade s
@@ -23,19 +24,19 @@ long_made second_bit head s fits time stuffing is =
 pub pat_made : (ts : ℕ) (p : ProgramFields) (s : List ℕ) → ts < 2 ^ 16 → s ≡ pat_bytes ts p → IsWellMade s
 unfolding pat_bytes
 pat_made ts p s t is =
-    let fits : Fits (head 0x00 ts (program_bytes p)) = record { table = omega arith; extension = t; version = omega arith; number = omega arith; last = omega arith; body = omega arith } in
-    long_made false (head 0x00 ts (program_bytes p)) s fits (λ e. absurd (omega arith)) (λ e. absurd (omega arith)) is
+    let fits : Fits (only_section 0x00 ts 0 (program_bytes p)) = record { table = omega arith; extension = t; version = omega arith; number = omega arith; last = omega arith; body = omega arith } in
+    long_made false (only_section 0x00 ts 0 (program_bytes p)) s fits (λ e. absurd (omega arith)) (λ e. absurd (omega arith)) is
 
 length-net_body : (info : List ℕ) (ts network : ℕ) → length (net_body_bytes info ts network) ≡ 10 + length info
-length-net_body info ts network = omega (arith, length-append {A = ℕ})
+length-net_body info ts network = let l = length-append info (length_bytes 6 ++ entry_bytes ts network) in omega arith
 
 pub net_made : (table id : ℕ) (info : List ℕ) (ts network : ℕ) (s : List ℕ) → (table ≡ 0x40) ⊎ (table ≡ 0x4A) → id < 2 ^ 16 → length info ≤ 1002 → s ≡ net_bytes table id info ts network → IsWellMade s
 unfolding net_bytes
 net_made table id info ts network s which i few is =
     let len = length-net_body info ts network in
     let small : table < 256 = elim which [ inl e ↦ omega arith | inr e ↦ omega arith ] in
-    let fits : Fits (head table id (net_body_bytes info ts network)) = record { table = small; extension = i; version = omega arith; number = omega arith; last = omega arith; body = omega arith } in
-    long_made true (head table id (net_body_bytes info ts network)) s fits (not_that table 0x70 which (λ e. absurd (omega arith)) (λ e. absurd (omega arith))) (not_that table 0xFF which (λ e. absurd (omega arith)) (λ e. absurd (omega arith))) is
+    let fits : Fits (only_section table id 0 (net_body_bytes info ts network)) = record { table = small; extension = i; version = omega arith; number = omega arith; last = omega arith; body = omega arith } in
+    long_made true (only_section table id 0 (net_body_bytes info ts network)) s fits (not_that table 0x70 which (λ e. absurd (omega arith)) (λ e. absurd (omega arith))) (not_that table 0xFF which (λ e. absurd (omega arith)) (λ e. absurd (omega arith))) is
   where
     not_that : (table other : ℕ) → (table ≡ 0x40) ⊎ (table ≡ 0x4A) → (0x40 ≡ other → ⊥) → (0x4A ≡ other → ⊥) → table ≢ other
     not_that table other which a b = λ e. elim which [ inl h ↦ a (sym h ∙ e) | inr h ↦ b (sym h ∙ e) ]
@@ -43,8 +44,8 @@ net_made table id info ts network s which i few is =
 pub pmt_made : (d : PmtDraft) (s : List ℕ) → d.program < 2 ^ 16 → length d.bytes ≤ 1008 → s ≡ pmt_bytes d → IsWellMade s
 unfolding pmt_bytes
 pmt_made d s p few is =
-    let fits : Fits (head 0x02 d.program (pmt_body_bytes d.bytes)) = record { table = omega arith; extension = p; version = omega arith; number = omega arith; last = omega arith; body = omega arith } in
-    long_made false (head 0x02 d.program (pmt_body_bytes d.bytes)) s fits (λ e. absurd (omega arith)) (λ e. absurd (omega arith)) is
+    let fits : Fits (only_section 0x02 d.program 0 (pmt_body_bytes d.bytes)) = record { table = omega arith; extension = p; version = omega arith; number = omega arith; last = omega arith; body = omega arith } in
+    long_made false (only_section 0x02 d.program 0 (pmt_body_bytes d.bytes)) s fits (λ e. absurd (omega arith)) (λ e. absurd (omega arith)) is
 
 -- ---- rows
 

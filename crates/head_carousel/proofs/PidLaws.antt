@@ -4,7 +4,7 @@ use Rattle.std.specs.Prelude.{Contains, Option, Some, None, map}
 use Rattle.std.specs.List.{All}
 use Rattle.std.proofs.lemmas.List.Elements.{All-append, All-cons, All-map, All-nil}
 use Rattle.head_plan.specs.Plans.{PlanData}
-use Rattle.timed_section.specs.TimedSection.{TimedSection}
+use Rattle.ts_section.specs.TimedSection.{TimedSection}
 use Rattle.head_carousel.specs.Blocks.{all_blocks}
 use Rattle.head_carousel.specs.Control.{dii_section, dsi_section}
 use Rattle.head_carousel.specs.GroupFiles.{GroupFiles}

@@ -1,7 +1,7 @@
 -- All sections of a plan, in the order in which they first go out.
 use Rattle.std.specs.Prelude.{ℕ, ◌+◌, ◌/◌, List, ◌∷◌, ◌++◌, map, length}
 use Rattle.head_plan.specs.Plans.{PlanData}
-use Rattle.timed_section.specs.TimedSection.{TimedSection}
+use Rattle.ts_section.specs.TimedSection.{TimedSection}
 use Rattle.head_carousel.specs.Blocks.{all_blocks}
 use Rattle.head_carousel.specs.Control.{dii_section, dsi_section}
 use Rattle.head_carousel.specs.GroupFiles.{GroupFiles, groups_from}

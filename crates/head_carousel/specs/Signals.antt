@@ -8,7 +8,7 @@ use Rattle.si_table.specs.Pids.{pat_pid, nit_pid, bat_pid, time_pid}
 use Rattle.si_table.specs.Tables.{ProgramFields, StreamFields}
 use Rattle.ssu_time.specs.UtcField.{TimeFields}
 use Rattle.si_table.specs.Written.{PmtDraft, net_bytes, pat_bytes, pmt_bytes, stream_bytes, tdt_bytes}
-use Rattle.timed_section.specs.TimedSection.{TimedSection}
+use Rattle.ts_section.specs.TimedSection.{TimedSection}
 use Rattle.head_carousel.specs.Notice.{carousel_tag, notice_section}
 
 abbrev pub timed : ℕ → ℕ → List ℕ → TimedSection

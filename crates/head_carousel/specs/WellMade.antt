@@ -3,7 +3,7 @@ use Rattle.std.specs.Prelude.{◌≡◌, ◌≢◌, ℕ, ◌<◌, ◌≤◌, Lis
 use Rattle.section_form.specs.Section.{IsRightSection}
 use Rattle.ts_section.specs.Cut.{cut_packets}
 use Rattle.ts_section.specs.Events.{Event, heard_of, is_listened, span}
-use Rattle.timed_section.specs.TimedSection.{TimedSection}
+use Rattle.ts_section.specs.TimedSection.{TimedSection}
 
 -- The section is whole and right, and no stuffing has its table_id.
 pub record IsWellMade (section : List ℕ) : Type 0 where

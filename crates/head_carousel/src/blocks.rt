@@ -2,7 +2,8 @@
 ghost use Rattle.std.specs.Prelude.{◌≡◌, ◌≤◌, ◌<◌, ◌-◌, ◌++◌, IfOk, OnOk, length, map};
 ghost use Rattle.std.specs.List.{All};
 ghost use Rattle.dsmcc_msg.specs.Written.{ddb_bytes};
-ghost use Rattle.head_carousel.specs.Blocks.{IsShort, all_blocks, block_count, block_of as block_in, ddb_fields, group_blocks, module_blocks};
+ghost use Rattle.head_carousel.specs.Blocks.{IsShort, all_blocks, block_count, block_of as block_in, ddb_fields};
+ghost use Rattle.head_carousel.specs.Blocks.{group_blocks, module_blocks};
 ghost use Rattle.head_carousel.specs.Signals.{timed};
 ghost use Rattle.head_carousel.specs.WellMade.{IsReady, IsWellMade};
 
@@ -11,8 +12,8 @@ use crate::listing::add;
 use dsmcc_msg::{Ddb, write_ddb};
 use ssu_io::NoMemory;
 use std::alloc::Global;
-use timed_section::Timed;
 use ts_packet::Pid;
+use ts_section::Timed;
 
 /// Where and how often the blocks are sent.
 #[derive(Drop)]

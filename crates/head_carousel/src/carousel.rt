@@ -18,18 +18,16 @@ use head_plan::Plan;
 use ssu_answer::BuildFault;
 use ssu_io::NoMemory;
 use std::alloc::Global;
-use timed_section::Timed;
+use ts_section::Timed;
 
 /// The most sections of a plan.
 const MOST_SECTIONS: u64 = 65536;
 
-/// The sections of a plan whose files, mention by mention, have these bytes: NIT, BAT, PAT, TDT, PMT, UNT, DSI, a DII for
-/// each group, and the DDBs by group, module and block.
+/// The sections of a plan whose files, mention by mention, have these bytes: NIT, BAT, PAT, TDT, PMT, UNT, DSI, a DII
+/// for each group, and the DDBs by group, module and block.
 ///
-/// # Errors
-///
-/// `ImageTooLong` names the first file that needs more than 65,536 blocks; `TooManySections` tells how many sections
-/// there would be, which is more than 65,536. Both come before a section is made. `Memory` where memory ran out.
+/// Answers `ImageTooLong` with the name of the first file that needs more than 65,536 blocks; else `TooManySections`
+/// with the number of sections there would be, which is more than 65,536; and `Memory` where memory ran out.
 pub fn sections(alloc: Global, plan: &Plan, images: &[Vec<u8>]) -> Result<Vec<Timed>, BuildFault>
     requires images { length images.now ≡ length (mentions plan.now.group) }
     ensures ok { IfOk result (λ list. list.items ≡ sections_of plan.now (map (λ i. i.items) images.now)) }

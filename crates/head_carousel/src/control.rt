@@ -5,7 +5,9 @@ ghost use Rattle.std.specs.Option.{ForSome};
 ghost use Rattle.ssu_compat.specs.Compat.{compat as compat_format};
 ghost use Rattle.ssu_compat.specs.Written.{entry_of, spelling};
 ghost use Rattle.head_carousel.specs.Blocks.{IsShort};
-ghost use Rattle.head_carousel.specs.Control.{crc_row as crc_bytes, dii_section as dii_of, dsi_section as dsi_of, group_fields, group_piece, hardware_and_software as both, module_fields, module_piece, subgroup_row};
+ghost use Rattle.head_carousel.specs.Control.{crc_row as crc_bytes, dii_section as dii_of, dsi_section as dsi_of};
+ghost use Rattle.head_carousel.specs.Control.{group_fields, group_piece, hardware_and_software as both, module_fields};
+ghost use Rattle.head_carousel.specs.Control.{module_piece, subgroup_row};
 ghost use Rattle.head_carousel.specs.GroupFiles.{numbered};
 ghost use Rattle.head_carousel.specs.Sections.{control_messages};
 ghost use Rattle.head_carousel.specs.Signals.{timed};
@@ -19,8 +21,8 @@ use head_plan::{Plan, PlanGroup};
 use ssu_compat::{Oui, Plain, write};
 use ssu_io::NoMemory;
 use std::alloc::Global;
-use timed_section::Timed;
 use ts_packet::Pid;
+use ts_section::Timed;
 
 /// Adds the DSI, and a DII for each group.
 pub(crate) fn add_control_messages(

@@ -1,13 +1,14 @@
 //! How many sections there are, which is known before one of them is made.
-ghost use Rattle.std.specs.Prelude.{◌≡◌, ◌≤◌, ◌<◌, ◌+◌, IfErr, IfOk, OnOk, None, Some, length, option_map, if◌then◌else◌};
+ghost use Rattle.std.specs.Prelude.{◌≡◌, ◌≤◌, ◌<◌, ◌+◌, IfErr, IfOk, OnOk, None, Some, length, option_map};
+ghost use Rattle.std.specs.Prelude.{if◌then◌else◌};
 ghost use Rattle.std.specs.List.{find};
 ghost use Rattle.head_carousel.specs.Blocks.{all_blocks, group_blocks};
 ghost use Rattle.head_carousel.specs.Refusal.{first_too_long, group_mentions, is_too_long, name_of};
 ghost use Rattle.head_carousel.specs.Sections.{signalling};
 
 use crate::group_files::GroupFiles;
-use file_names::FileName;
 use head_plan::Plan;
+use ssu_io::FileName;
 
 /// The most blocks of a file, for blockNumber has 16 bits.
 const MOST_BLOCKS: usize = 65536;

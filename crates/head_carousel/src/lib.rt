@@ -10,9 +10,7 @@ mod listing;
 mod networks;
 mod notices;
 mod programs;
-#[cfg(test)]
-mod tests;
 
 pub use carousel::sections;
 pub use ssu_answer::BuildFault;
-pub use timed_section::Timed;
+pub use ts_section::Timed;

@@ -7,8 +7,8 @@ ghost use Rattle.head_carousel.specs.WellMade.{IsReady, IsWellMade};
 
 use section_form::MakeFault;
 use ssu_io::NoMemory;
-use timed_section::Timed;
 use ts_packet::Pid;
+use ts_section::Timed;
 
 /// Adds a section.
 pub(crate) fn add(

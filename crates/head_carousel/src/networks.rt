@@ -13,7 +13,7 @@ use si_table::write_net;
 use ssu_compat::Oui;
 use ssu_io::NoMemory;
 use std::alloc::Global;
-use timed_section::Timed;
+use ts_section::Timed;
 
 /// Adds the NIT, and with a bouquet the BAT.
 #[tactic(auto, unfolding(crate::specs::Signals::networks))]

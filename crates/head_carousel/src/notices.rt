@@ -1,5 +1,6 @@
 //! The Update Notification Table: ETSI TS 102 006, 9.4.
-ghost use Rattle.std.specs.Prelude.{◌≡◌, ◌≤◌, ◌<◌, ◌^◌, ◌++◌, [], List, IfOk, IsTrue, OnOk, length, map, option_map, true};
+ghost use Rattle.std.specs.Prelude.{◌≡◌, ◌≤◌, ◌<◌, ◌^◌, ◌++◌, [], List, IfOk, IsTrue, OnOk, length, map, option_map};
+ghost use Rattle.std.specs.Prelude.{true};
 ghost use Rattle.std.specs.List.{All};
 ghost use Rattle.std.specs.Option.{ForSome};
 ghost use Rattle.head_plan.specs.Schedules.{schedule_data};
@@ -19,8 +20,8 @@ use ssu_compat::{Oui, Plain, write};
 use ssu_io::NoMemory;
 use ssu_unt::{UntWriter, put_scheduling, put_ssu_location, put_ssu_subgroup, put_update};
 use std::alloc::Global;
-use timed_section::Timed;
 use ts_packet::Pid;
+use ts_section::Timed;
 
 /// Adds the table, where the plan has a PID for it.
 #[tactic(auto, unfolding(crate::specs::Signals::notices))]

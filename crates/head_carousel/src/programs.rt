@@ -16,8 +16,8 @@ use ssu_compat::Oui;
 use ssu_io::NoMemory;
 use ssu_time::Utc;
 use std::alloc::Global;
-use timed_section::Timed;
 use ts_packet::Pid;
+use ts_section::Timed;
 
 /// Adds PAT, TDT and PMT.
 #[tactic(auto, unfolding(crate::specs::Signals::programs))]

@@ -4,7 +4,7 @@ use Rattle.std.specs.List.{All, filter}
 use Rattle.std.proofs.lemmas.Bool.Decides.{eqb_tells, leb_tells}
 use Rattle.std.proofs.lemmas.List.{get_or_append_left, get_or-append_right, map-append, length-replicate}
 use Rattle.std.proofs.lemmas.List.Elements.{All-append, filter-append}
-use Rattle.timed_section.specs.TimedSection.{TimedSection}
+use Rattle.ts_section.specs.TimedSection.{TimedSection}
 use Rattle.ts_packet.specs.Packet.{packet_bytes, header, adaptation_field, pid_of, continuity_counter}
 use Rattle.ts_packet.proofs.Written.{length-adaptation_field}
 use Rattle.ts_section.specs.Cut.{filled, payloads, payload_count, packets_with, with_pointer, cut_packets}

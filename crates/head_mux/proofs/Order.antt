@@ -9,7 +9,7 @@ use Rattle.std.proofs.lemmas.List.FromFn.{length-range_with_len}
 use Rattle.ssu_io.specs.Bytes.{GainsPrefix}
 use Rattle.ssu_io.specs.SinkBuffer.{MovesOn}
 use Rattle.ssu_io.proofs.BufferLemmas.{MovesOn_none, MovesOn_join, MovesOn_failed, GainsPrefix_longer}
-use Rattle.timed_section.specs.TimedSection.{TimedSection}
+use Rattle.ts_section.specs.TimedSection.{TimedSection}
 use Rattle.ts_section.specs.Cut.{payloads, payload_count, packets_with, with_pointer, cut_packets, next_counter}
 use Rattle.head_mux.specs.Sent.{section_at, next_index, dues_before, section_of_turn, counter_before, packets_of_turn, sent}
 
@@ -22,7 +22,7 @@ unfolding dues_before
 length_dues list zero = length-range_with_len 0 (length list)
 length_dues list (suc t) = length-set (dues_before list t) (next_index (dues_before list t)) (t + (section_of_turn list t).period) ∙ length_dues list t
 
-dues_next : (list : List TimedSection) (t : ℕ)
+pub dues_next : (list : List TimedSection) (t : ℕ)
     → dues_before list (t + 1) ≡ slice_set (dues_before list t) (next_index (dues_before list t)) (t + (section_of_turn list t).period)
 unfolding dues_before
 dues_next list t = rw add-one refl
@@ -182,6 +182,3 @@ counted_below list t counters counted pid h =
 -- a section that was read at an index, at any default
 pub section_read : (list : List TimedSection) (index next : ℕ) (section : TimedSection) → section ≡ get_or list index section → index < length list → index ≡ next → section ≡ section_at list next
 section_read list index next section e h k = e ∙ get_or_default list index section _ h ∙ ap (section_at list) k
-
-pub bound_is : (list : List TimedSection) (t : ℕ) (dues : List ℕ) → dues ≡ dues_before list t → (section_at list (next_index dues)).pid < 8192 → (section_of_turn list t).pid < 8192
-bound_is list t dues e h = let P : List ℕ → Type 0 = λ d. (section_at list (next_index d)).pid < 8192 in subst P e h

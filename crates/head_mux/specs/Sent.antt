@@ -1,8 +1,8 @@
 -- In which order the sections of a list are sent, and as which packets: one section a turn, those of a PID with counters
 -- that go on (ISO/IEC 13818-1, 2.4.3.3).
-use Rattle.std.specs.Prelude.{zero, suc, ◌≢◌, ℕ, ◌+◌, ◌≤◌, Bool, if◌then◌else◌, ◌==◌, nat_le, List, [], ◌++◌, length, slice_index, slice_index_or, slice_set}
+use Rattle.std.specs.Prelude.{zero, suc, ◌≢◌, ℕ, ◌+◌, ◌≤◌, Bool, if◌then◌else◌, ◌==◌, nat_le, List, [], ◌∷◌, ◌++◌, max, length, slice_index, slice_index_or, slice_set}
 use Rattle.std.specs.List.{list_all, position_or_len, range_with_len}
-use Rattle.timed_section.specs.TimedSection.{TimedSection}
+use Rattle.ts_section.specs.TimedSection.{TimedSection}
 use Rattle.ts_section.specs.Cut.{cut_packets, next_counter}
 
 -- What is asked of a section: the length of a section, a table_id that no stuffing has, and a period of at least a turn.
@@ -53,3 +53,8 @@ packets_of_turn list t =
 unfoldable pub sent : List TimedSection → ℕ → List (List ℕ)
 sent list zero = []
 sent list (suc t) = sent list t ++ packets_of_turn list t
+
+-- The greatest period of the sections of a list.
+abbrev pub greatest_period : List TimedSection → ℕ
+greatest_period [] = 0
+greatest_period (section ∷ list) = max section.period (greatest_period list)

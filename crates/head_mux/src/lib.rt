@@ -4,8 +4,6 @@
 mod fault;
 mod packing;
 mod sending;
-#[cfg(test)]
-mod tests;
 mod turn;
 
 pub use fault::MuxFault;

@@ -9,7 +9,7 @@ use Rattle.toml.specs.View.{view, items_view}
 use Rattle.toml.specs.declared.value.Value.{Value}
 use Rattle.toml.proofs.Views.{items_view-drop}
 use Rattle.toml_fields.specs.Place.{Place, array, item_count}
-use Rattle.file_names.specs.FileName.{is_file_name, file_name_of}
+use Rattle.ssu_io.specs.FileName.{is_file_name, file_name_of}
 use Rattle.head_plan.specs.Files.{AreFiles}
 use Rattle.head_plan.specs.PlanText.{file_of, files_of, is_counted, modules}
 

@@ -1,4 +1,3 @@
-pub mod CivilLemmas
 pub mod FileLemmas
 pub mod GroupLemmas
 pub mod MentionLemmas

@@ -2,7 +2,7 @@
 use Rattle.std.specs.Prelude.{◌≡◌, ℕ, ◌≤◌, true, List, map, length}
 use Rattle.std.specs.List.{list_all}
 use Rattle.arrayvec.specs.ArrayString.{ArrayString}
-use Rattle.file_names.specs.FileName.{is_file_name}
+use Rattle.ssu_io.specs.FileName.{is_file_name}
 
 -- the bytes of each name
 abbrev pub texts : List ArrayString → List (List ℕ)

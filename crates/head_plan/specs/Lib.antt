@@ -1,4 +1,3 @@
-pub mod Times
 pub mod Plans
 pub mod PlanText
 pub mod Files

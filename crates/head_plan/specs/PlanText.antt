@@ -1,12 +1,15 @@
 -- What a text says of a plan: its fields, in the order in which they are looked at.
-use Rattle.std.specs.Prelude.{◌≡◌, ℕ, suc, Bool, false, not, ◌&&◌, ◌||◌, ◌==◌, codes, List, [], ◌∷◌, ◌++◌, Option, Some, None, is_some, Ok, Err, nat_le, if◌then◌else◌, unwrap_or, option_map, option_and_then}
+use Rattle.std.specs.Prelude.{◌≡◌, ℕ, suc, Bool, false, not, ◌&&◌, ◌||◌, ◌==◌, codes, List, [], ◌∷◌, ◌++◌, Option}
+use Rattle.std.specs.Prelude.{Some, None, is_some, Ok, Err, nat_le, if◌then◌else◌, unwrap_or, option_map}
+use Rattle.std.specs.Prelude.{option_and_then}
 use Rattle.std.specs.Result.{result_ok}
 use Rattle.toml.specs.Data.{Data, Items, no_items, item, Members, as_str}
 use Rattle.toml_fields.specs.Reading.{Reading, ◌>>=◌, or_bad, checked, item_prefix}
 use Rattle.toml_fields.specs.Document.{document_of}
 use Rattle.toml_fields.specs.Place.{Place, number, optional_number, text, optional_flag, optional_table, array, tables, item_count}
-use Rattle.file_names.specs.FileName.{file_name_of}
-use Rattle.head_plan.specs.Times.{Moment, civil_of}
+use Rattle.ssu_io.specs.FileName.{file_name_of}
+use Rattle.ssu_time.specs.OfText.{civil_of}
+use Rattle.ssu_time.specs.UtcField.{TimeFields}
 use Rattle.head_plan.specs.Plans.{ScheduleData, GroupData, PlanData}
 use Rattle.head_plan.specs.declared.fault.PlanFault.{PlanFault}
 use Rattle.head_plan.specs.declared.fault.PlanFault.TheVariants.{Field, Memory}
@@ -25,13 +28,13 @@ service p = do
   Ok (ts, network, bouquet, service)
 
 -- a time by its text
-unfoldable pub time : Place → List ℕ → Reading Moment
+unfoldable pub time : Place → List ℕ → Reading TimeFields
 time p name = do
   written ← text p name
   or_bad (p.prefix ++ name) (civil_of written)
 
 -- the OUI, and the time that is sent
-unfoldable pub origin : Place → Reading (ℕ × Moment)
+unfoldable pub origin : Place → Reading (ℕ × TimeFields)
 origin p = do
   oui ← number p (codes "oui") 0 16777215
   now ← time p (codes "time")

@@ -1,12 +1,12 @@
 -- What a plan says, with its groups and their files as lists, and the range of each field.
 use Rattle.std.specs.Prelude.{◌≡◌, ◌≢◌, ℕ, ◌^◌, ◌<◌, ◌≤◌, Bool, true, List, [], ◌∷◌, ◌++◌, Option, IsSome}
 use Rattle.std.specs.Option.{ForSome}
-use Rattle.head_plan.specs.Times.{Moment}
+use Rattle.ssu_time.specs.UtcField.{TimeFields}
 
 -- when the boxes may take the update
 pub record ScheduleData : Type 0 where
-  pub start : Moment
-  pub end : Moment
+  pub start : TimeFields
+  pub end : TimeFields
   pub period_hours : ℕ
   pub duration_hours : ℕ
 
@@ -27,7 +27,7 @@ pub record PlanData : Type 0 where
   pub bouquet : Option ℕ
   pub service : ℕ
   pub oui : ℕ
-  pub time : Moment
+  pub time : TimeFields
   pub pmt_pid : ℕ
   pub data_pid : ℕ
   pub notice_pid : Option ℕ

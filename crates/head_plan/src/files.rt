@@ -2,7 +2,7 @@
 ghost use Rattle.std.specs.Prelude.{◌≡◌, ◌<◌, ◌≤◌, Some, length, slice_get};
 ghost use Rattle.head_plan.specs.Files.{AreFiles, texts};
 
-use file_names::FileName;
+use ssu_io::FileName;
 use std::marker::Model;
 
 /// The files of a group, 1 to 256 names. A contract sees the list of their texts.

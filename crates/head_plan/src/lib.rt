@@ -8,15 +8,11 @@ mod mentions;
 mod plan;
 mod read;
 mod schedule;
-mod times;
 
 pub use fault::PlanFault;
-pub use file_names::FileName;
 pub use files::Files;
 pub use groups::{Groups, PlanGroup};
 pub use plan::Plan;
 pub use schedule::Schedule;
+pub use ssu_io::FileName;
 pub use toml_fields::FieldName;
-
-#[cfg(test)]
-mod tests;

@@ -4,7 +4,7 @@ ghost use Rattle.head_plan.specs.Plans.{mentions};
 
 use crate::groups::PlanGroup;
 use crate::plan::Plan;
-use file_names::FileName;
+use ssu_io::FileName;
 
 impl Plan {
     /// How many files the groups mention. A file that is mentioned twice counts twice.

@@ -38,7 +38,7 @@ pub struct Plan {
 
 impl Model for Plan {
     ghost use Rattle.std.specs.Prelude.{option_map};
-    ghost use Rattle.head_plan.specs.Times.{moment_of};
+    ghost use Rattle.ssu_time.specs.UtcField.{time_view};
     ghost use Rattle.head_plan.specs.Plans.{PlanData, IsPlan};
     ghost use Rattle.head_plan.specs.Schedules.{schedule_data};
 
@@ -50,7 +50,7 @@ impl Model for Plan {
       bouquet = p.bouquet;
       service = p.service;
       oui = p.oui;
-      time = moment_of p.time;
+      time = time_view p.time;
       pmt_pid = p.pmt_pid;
       data_pid = p.data_pid;
       notice_pid = p.notice_pid;

@@ -14,15 +14,12 @@ use std::alloc::Global;
 use toml_fields::{DocumentFault, Fields, field_name, read_document};
 
 impl Plan {
-    /// The plan that the text of a `plan.toml` tells of. Keys that are not listed in it are passed
-    /// over.
+    /// The plan that the text of a `plan.toml` tells of. Keys that are not listed in it are passed over.
     ///
-    /// # Errors
-    ///
-    /// `Field` names the first bad field: one that is missing though not optional, or out of its
-    /// range. The order is `text` (no TOML or no UTF-8), `ts`, `network`, `bouquet`, `service`, `oui`,
-    /// `time`, `pmt_pid`, `data_pid`, `notice_pid`, `signal_period`, `turns`, `manual`, `schedule`,
-    /// `group`, and then the fields of each group, as `group.0.model`.
+    /// Answers `Field` with the name of the first bad field: one that is missing though not optional, or out of its
+    /// range; and `Memory` where memory ran out. The order is `text` (no TOML or no UTF-8), `ts`, `network`,
+    /// `bouquet`, `service`, `oui`, `time`, `pmt_pid`, `data_pid`, `notice_pid`, `signal_period`, `turns`, `manual`,
+    /// `schedule`, `group`, and then the fields of each group, as `group.0.model`.
     #[tactic(auto, unfolding(crate::specs::PlanText::plan_of))]
     pub fn read(alloc: Global, text: &[u8]) -> Result<Plan, PlanFault>
         ensures plan { IfOk result (λ p. plan_of text.now ≡ Ok p) }

@@ -8,6 +8,3 @@ mod laws;
 pub use laws::{
     by_part, first_steps, fixed_steps, held_steps, last_steps, since_steps, steady_steps,
 };
-
-#[cfg(test)]
-mod tests;

@@ -7,9 +7,10 @@ use Rattle.std.proofs.lemmas.Bool.Decides.{nat_tests}
 use Rattle.wire.specs.Format.{SpellsEach}
 use Rattle.wire.specs.Read.{Reads}
 use Rattle.section_form.specs.Long.{LongFields, long_form, unchecked_form, long_head, behind_length, current_version}
+use Rattle.si_desc.specs.Descriptors.{sized_row}
 use Rattle.si_table.specs.declared.pmt.Pmt.{Pmt}
 use Rattle.si_table.specs.Tables.{PmtFields, StreamFields, stream, pmt, pmt_body}
-use Rattle.si_table.specs.Exact.{pmt_exact}
+use Rattle.si_table.proofs.Exact.{pmt_exact}
 use Rattle.si_table.specs.Views.{pmt_view}
 use Rattle.route_tables.specs.Said.{tagged_stream}
 
@@ -45,7 +46,7 @@ long_room head section s =
     omega arith
 
 streams_room : (xs : List StreamFields) (p : List ℕ) → SpellsEach stream.Spells xs p → 5 * length xs ≤ length p
-unfolding stream
+unfolding stream sized_row
 streams_room [] p s = omega arith
 streams_room (x ∷ xs) p s =
     let rest = streams_room xs s.back s.second in
@@ -70,7 +71,7 @@ few {A} {B} h (x ∷ xs) = one (h x) (filter_map h xs) (few h xs)
     one (Some y) ys r = omega arith
 
 pmt_room : (p : PmtFields) (section : List ℕ) → pmt.Spells p section → length (filter_map tagged_stream p.streams) ≤ 201
-unfolding pmt pmt_body
+unfolding pmt pmt_body sized_row
 pmt_room p section s =
     let x = s.0 in
     let is = s.1 in

@@ -1,6 +1,7 @@
 -- The first five of the seven levels of the way to an update: ETSI TS 102 006, 6 to 9. Each is a function of the sections
 -- heard, the newest first. Levels 2, 3 and 4 look only at what was heard since the value directly below changed.
-use Rattle.std.specs.Prelude.{ℕ, ◌-◌, ◌%◌, Bool, false, ◌&&◌, ◌||◌, not, ◌==◌, nat_le, nat_lt, List, [], ◌∷◌, ◌++◌, length, take, Option, Some, None, unwrap_or, if◌then◌else◌}
+use Rattle.std.specs.Prelude.{ℕ, ◌-◌, ◌%◌, Bool, false, ◌&&◌, ◌||◌, not, ◌==◌, nat_le, nat_lt, List, [], ◌∷◌, ◌++◌}
+use Rattle.std.specs.Prelude.{length, take, Option, Some, None, unwrap_or, if◌then◌else◌}
 use Rattle.std.specs.List.{filter, find, list_any}
 use Rattle.std.specs.Option.{option_map}
 use Rattle.route_part.specs.Part.{since}
@@ -9,7 +10,8 @@ use Rattle.ts_section.specs.Events.{Heard}
 use Rattle.si_desc.specs.declared.linkages.ServiceRef.{ServiceRef}
 use Rattle.ssu_time.specs.declared.windows.Window.{Window}
 use Rattle.ssu_unt.specs.Targeting.{TargetFields}
-use Rattle.route_tables.specs.Values.{Receiver, ProgramFound, TaggedStream, ComponentFound, NoticeFound, CarouselFound, same_service, same_services, same_program, same_component}
+use Rattle.route_tables.specs.Values.{Receiver, ProgramFound, TaggedStream, ComponentFound, NoticeFound}
+use Rattle.route_tables.specs.Values.{CarouselFound, same_service, same_services, same_program, same_component}
 use Rattle.route_tables.specs.Said.{first_some, services_said, program_said, service_said, component_said, number_said, entries_said, time_said}
 
 -- ---- Level 1, the linkage

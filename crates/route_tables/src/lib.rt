@@ -14,6 +14,3 @@ mod tables;
 pub use carousel::Carousel;
 pub use laws::levels_stay;
 pub use tables::Tables;
-
-#[cfg(test)]
-mod tests;

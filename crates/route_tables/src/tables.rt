@@ -132,7 +132,8 @@ impl Tables {
         self.services.len() as u8
     }
 
-    /// The number of the service that was found, and the PID of its PMT.
+    /// The number of the service that was found, and the PID of its PMT. `None` comes exactly where no PAT has listed
+    /// a service that carries updates since those services last changed.
     pub fn program(&self) -> Option<(u16, Pid)>
         ensures { (me : Receiver) → (heard : List Heard) → TablesStand me heard self.now
             → result ≡ option_map service_and_pid (level_2 me heard) }
@@ -143,7 +144,8 @@ impl Tables {
         Some((program.service.service, program.pid))
     }
 
-    /// The PID of the stream that tells of an update, and its update type, 1 or 2.
+    /// The PID of the stream that tells of an update, and its update type, 1 or 2. `None` comes exactly where no PMT
+    /// of the program was heard since the program last changed, or the last one has no such stream.
     pub fn component(&self) -> Option<(Pid, u8)>
         ensures { (me : Receiver) → (heard : List Heard) → TablesStand me heard self.now
             → result ≡ option_map pid_and_type (level_3 me heard) }
@@ -175,7 +177,8 @@ impl Tables {
         }
     }
 
-    /// The carousel of an update that the box may take now.
+    /// The carousel of an update that the box may take now. `None` comes exactly where there is no component, or it
+    /// has a notification table and no entry for the box is open now and leads to a carousel.
     pub fn carousel(&self) -> Option<Carousel>
         ensures { (me : Receiver) → (heard : List Heard) → TablesStand me heard self.now
             → option_map carousel_view result ≡ level_5 me heard }

@@ -1,3 +1,4 @@
 pub mod LongLaws
 pub mod RightLaws
 pub mod RightForm
+pub mod Exact

@@ -4,8 +4,10 @@ use Rattle.std.proofs.lemmas.List.{length-append, take_at}
 use Rattle.ts_crc.specs.Crc.{crc_of}
 use Rattle.ts_crc.proofs.CrcLaws.{crc_appended}
 use Rattle.wire.specs.Format.{sized, before, rest}
-use Rattle.wire.specs.Number.{bytes_of, number1_put, number2_put}
-use Rattle.section_form.specs.Long.{LongFields, long_form, unchecked_form, long_form_exact, long_head, current_version, behind_length}
+use Rattle.wire.specs.Number.{bytes_of}
+use Rattle.wire.proofs.Numbers.{number1_put, number2_put}
+use Rattle.section_form.specs.Long.{LongFields, long_form, unchecked_form, long_head, current_version, behind_length}
+use Rattle.section_form.proofs.Exact.{long_form_exact}
 use Rattle.section_form.specs.Section.{IsRightSection, section_length, table_id}
 use Rattle.section_form.specs.Written.{head_bits, long_text, long_bytes}
 

@@ -2,7 +2,8 @@
 use Rattle.std.proofs.Common.{◌≡◌, ℕ, ◌*◌, ◌+◌, ◌/◌, ◌^◌, ◌<◌, Bool, true, false, cond, eqb, fold, List, [], ◌∷◌, ◌++◌, length, get_or, Option, Some, None, inl, inr, refl, sym, ap, ◌∙◌, arith, eqb-true, eq-eqb}
 use Rattle.std.proofs.lemmas.Bool.{and_parts}
 use Rattle.ts_crc.specs.Crc.{crc_of}
-use Rattle.section_form.specs.Long.{LongFields, long_form, unchecked_form, long_head, unchecked_form_exact}
+use Rattle.section_form.specs.Long.{LongFields, long_form, unchecked_form, long_head}
+use Rattle.section_form.proofs.Exact.{unchecked_form_exact}
 use Rattle.section_form.specs.Section.{syntax_indicator, IsTimeAndDate, IsRight}
 
 front_of_one : (front : List ℕ) → length front ≡ 1 → (a : ℕ) × (front ≡ a ∷ [])

@@ -1,9 +1,9 @@
 -- The long form of a section: ISO/IEC 13818-1, 2.4.4.11.
 use Rattle.std.specs.Prelude.{ℕ, ◌/◌, ◌%◌, ◌^◌, Bool, ◌&&◌, ◌==◌, nat_le, List}
 use Rattle.ts_crc.specs.Crc.{crc_of}
-use Rattle.wire.specs.Format.{Front, Whole, ◌&◌, ◌then◌, reads, such, sized, only, rest, before, checked, whole_reads}
-use Rattle.wire.specs.Laws.{IsFront, IsWhole, reads_exact, such_exact, sized_exact, pair_exact, then_exact, before_exact, rest_exact, only_exact, checked_exact, whole_reads_exact}
-use Rattle.wire.specs.Number.{number, number1, number2}
+use Rattle.wire.specs.Format.{Front, Whole, ◌&◌, ◌then◌, reads, such, sized, only, rest, before, checked, whole_such, whole_reads}
+use Rattle.wire.specs.Inside.{inside}
+use Rattle.wire.specs.Number.{number}
 
 -- The fields of a section in the long form. Its body stands between last_section_number and CRC_32.
 pub record LongFields : Type 0 where
@@ -66,27 +66,13 @@ unchecked_form = whole_reads fields_of (only (number 1 & sized long_head behind_
 unfoldable pub long_form : Whole LongFields
 long_form = checked has_right_crc unchecked_form
 
--- ---- the format is exact
+-- A section of the long form whose fields pass a test, and what its body is.
+abbrev pub body_of : LongFields → List ℕ
+body_of head = head.body
 
-pub long_head_exact : IsFront long_head
-unfolding long_head
-long_head_exact = reads_exact length_of (such_exact is_long_head number2)
+abbrev pub section_of : {A : Type 0} → (LongFields → Bool) → Whole A → Whole (LongFields × A)
+section_of is_head body = inside (whole_such is_head long_form) body_of body
 
-pub current_version_exact : IsFront current_version
-unfolding current_version
-current_version_exact = reads_exact version_of (such_exact is_current number1)
-
-pub behind_length_exact : IsWhole behind_length
-unfolding behind_length
-behind_length_exact =
-    then_exact number2 (λ _. then_exact current_version_exact (λ _. then_exact number1 (λ _. then_exact number1 (λ _.
-    before_exact 4 rest_exact))))
-
-pub unchecked_form_exact : IsWhole unchecked_form
-unfolding unchecked_form
-unchecked_form_exact =
-    whole_reads_exact fields_of (only_exact (pair_exact number1 (sized_exact long_head_exact behind_length_exact)))
-
-pub long_form_exact : IsWhole long_form
-unfolding long_form
-long_form_exact = checked_exact has_right_crc unchecked_form_exact
+-- the test on table_id alone
+abbrev pub has_table : ℕ → LongFields → Bool
+has_table table head = head.table == table

@@ -4,6 +4,17 @@ use Rattle.ts_crc.specs.Crc.{crc_of}
 use Rattle.wire.specs.Number.{bytes_of}
 use Rattle.section_form.specs.Long.{LongFields}
 
+-- section 0 of 0 of a table
+abbrev pub only_section : (table extension version : ℕ) → List ℕ → LongFields
+only_section table extension version body = record {
+  table = table;
+  extension = extension;
+  version = version;
+  number = 0;
+  last = 0;
+  body = body;
+}
+
 -- section_syntax_indicator 1, the second bit as the table states it, 2 reserved bits
 abbrev pub head_bits : Bool → ℕ
 head_bits second_bit = if second_bit then 15 else 11

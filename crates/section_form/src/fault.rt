@@ -1,35 +1,24 @@
 //! Why a section could not be made.
 
 ghost use Rattle.std.specs.Prelude.{◌≡◌};
+ghost use Rattle.section_form.specs.declared.fault.MakeFault.TheVariants.{Memory};
 
 use ssu_io::NoMemory;
 use std::alloc::{AllocError, AllocFailed};
-use std::error::Error;
-use std::fmt;
+use thiserror::Error;
 
 /// Why a writer of a section refused. The writer is then unchanged.
-#[derive(Clone, Copy, Debug, PartialEq, Eq)]
+#[derive(Clone, Copy, Debug, PartialEq, Eq, Error)]
 pub enum MakeFault {
     /// section_length would pass its greatest value.
+    #[error("the section would be too long")]
     TooLong,
     /// Memory ran out.
+    #[error("out of memory")]
     Memory,
 }
 
-impl fmt::Display for MakeFault {
-    fn fmt<W: fmt::Write>(&self, f: &mut fmt::Formatter<W>) -> fmt::Result {
-        match self {
-            MakeFault::TooLong => write!(f, "the section would be too long"),
-            MakeFault::Memory => write!(f, "out of memory"),
-        }
-    }
-}
-
-impl Error for MakeFault {}
-
 impl From<NoMemory> for MakeFault {
-    ghost use Rattle.section_form.specs.declared.fault.MakeFault.TheVariants.{Memory};
-
     ghost from_gives = { λ _ e. e ≡ Memory };
 
     fn from(_: NoMemory) -> MakeFault {
@@ -38,8 +27,6 @@ impl From<NoMemory> for MakeFault {
 }
 
 impl From<AllocError> for MakeFault {
-    ghost use Rattle.section_form.specs.declared.fault.MakeFault.TheVariants.{Memory};
-
     ghost from_gives = { λ _ e. e ≡ Memory };
 
     fn from(_: AllocError) -> MakeFault {
@@ -48,8 +35,6 @@ impl From<AllocError> for MakeFault {
 }
 
 impl<T: Drop> From<AllocFailed<T>> for MakeFault {
-    ghost use Rattle.section_form.specs.declared.fault.MakeFault.TheVariants.{Memory};
-
     ghost from_gives = { λ _ e. e ≡ Memory };
 
     fn from(_: AllocFailed<T>) -> MakeFault {

@@ -6,11 +6,9 @@
 mod fault;
 mod reading;
 mod right;
-#[cfg(test)]
-mod tests;
 mod writing;
 
 pub use fault::MakeFault;
 pub use reading::{LongForm, long, long_of_right};
 pub use right::{is_right, section_ends};
-pub use writing::long_section;
+pub use writing::{long_section, table_section};

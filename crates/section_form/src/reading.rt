@@ -46,7 +46,8 @@ pub fn long(section: &[u8]) -> Option<LongForm<'_>>
     fields_in(section)
 }
 
-/// The fields of a right section in the long form: what `long` answers, without the time of a CRC.
+/// The fields of a right section in the long form: what `long` answers, without the time of a CRC. `None` comes
+/// exactly where `long` answers it.
 ///
 /// A section that a hearer gives out is right.
 pub fn long_of_right(section: &[u8]) -> Option<LongForm<'_>>

@@ -4,14 +4,15 @@ ghost use Rattle.std.specs.Prelude.{◌≡◌, ◌≢◌, ◌≤◌, ◌<◌, �
 ghost use Rattle.section_form.specs.Long.{long_form};
 ghost use Rattle.section_form.specs.Section.{IsRightSection};
 ghost use Rattle.section_form.specs.Shown.{fields};
-ghost use Rattle.section_form.specs.Written.{long_bytes, long_text, head_bits};
+ghost use Rattle.section_form.specs.Written.{long_bytes, long_text, head_bits, only_section};
 
 use crate::reading::LongForm;
 use ssu_io::NoMemory;
 use std::alloc::Global;
 use wire::{put_u8, put_u16, put_u32};
 
-/// The section with these fields, in force, with its CRC.
+/// The section with these fields, in force, with its CRC. The body has at most 4,084 bytes, the version is below 32, and
+/// the section number at most the last one's. `NoMemory` is the one refusal.
 ///
 /// `second_bit` stands behind section_syntax_indicator: 0 for PAT, PMT and DSM-CC sections, 1 for NIT, BAT and UNT.
 pub fn long_section(
@@ -33,6 +34,33 @@ pub fn long_section(
     let crc = ts_crc::crc(&out);
     put_u32(&mut out, crc)?;
     Ok(out)
+}
+
+/// The same of section 0 of 0 of a table. The body has at most 4,084 bytes, and the version is below 32. `NoMemory`
+/// is the one refusal.
+pub fn table_section(
+    alloc: Global,
+    table: u8,
+    extension: u16,
+    version: u8,
+    body: &[u8],
+    second_bit: bool,
+) -> Result<Vec<u8>, NoMemory>
+    requires body { length body.now ≤ 4084 }
+    requires version { version < 32 }
+    ensures bytes { IfOk result (λ s. s.items ≡ long_bytes second_bit (only_section table extension version body.now)) }
+    ensures read_back { IfOk result (λ s. long_form.of s.items ≡ Some (only_section table extension version body.now)) }
+    ensures right { table ≢ 0x70 → IfOk result (λ s. IsRightSection s.items) }
+{
+    let head = LongForm {
+        table,
+        extension,
+        version,
+        number: 0,
+        last: 0,
+        body,
+    };
+    long_section(alloc, head, second_bit)
 }
 
 fn put_text(out: &mut Vec<u8>, head: &LongForm<'_>, second_bit: bool) -> Result<(), NoMemory>

@@ -1,5 +1,5 @@
 -- Each format begins with its table_id.
-use Rattle.std.proofs.Common.{◌≡◌, ℕ, zero, suc, ◌++◌, List, [], ◌∷◌, length, get_or, refl, sym, arith, Some, Bool, true, false, eqb, ap, subst, ◌||◌, ◌&&◌, ◌⊎◌, inl, inr}
+use Rattle.std.proofs.Common.{◌≡◌, ℕ, ◌++◌, List, [], ◌∷◌, length, refl, arith, Some, Bool, true, false, eqb, ap, subst, ◌||◌, ◌&&◌, ◌⊎◌, inl, inr}
 use Rattle.std.proofs.lemmas.Bool.{eqb-true}
 use Rattle.wire.specs.Format.{IsPair}
 use Rattle.wire.specs.Number.{number, number_of}
@@ -7,12 +7,12 @@ use Rattle.section_form.specs.Long.{LongFields, long_form, unchecked_form}
 use Rattle.si_table.specs.Tables.{NetFields, PatFields, PmtFields, net, pat, pmt}
 use Rattle.ssu_time.specs.UtcField.{TimeFields}
 use Rattle.si_table.specs.Times.{TotFields, tdt, tot}
-use Rattle.si_table.specs.Exact.{net_exact, pat_exact, pmt_exact, tdt_exact, tot_exact}
+use Rattle.si_table.proofs.Exact.{net_exact, pat_exact, pmt_exact, tdt_exact, tot_exact}
 use Rattle.ssu_unt.specs.Table.{UntFields, unt}
-use Rattle.ssu_unt.specs.Exact.{unt_exact}
+use Rattle.ssu_unt.proofs.Exact.{unt_exact}
 use Rattle.dsmcc_msg.specs.Control.{DiiFields, DsiFields, dii, dsi}
 use Rattle.dsmcc_msg.specs.Block.{DdbFields, ddb}
-use Rattle.dsmcc_msg.specs.Exact.{ddb_exact, dii_exact, dsi_exact}
+use Rattle.dsmcc_msg.proofs.Exact.{ddb_exact, dii_exact, dsi_exact}
 
 -- the section begins with this byte
 abbrev pub Begins : List ℕ → ℕ → Type 0
@@ -77,7 +77,7 @@ pub unt_begins : (u : UntFields) (section : List ℕ) → unt.of section ≡ Som
 unfolding unt
 unt_begins u section e =
     let s = unt_exact.takes section u e in
-    same_table section s.head.table 0x4B (long_begins s.head section s.long) s.table
+    table_begins s.0.0 section 0x4B s.2.0.0 s.2.0.1
 
 pub dsi_begins : (d : DsiFields) (section : List ℕ) → dsi.of section ≡ Some d → Begins section 0x3B
 unfolding dsi

@@ -1,16 +1,16 @@
 -- A section that a reader accepts is of its kind, so one without a kind is accepted by none.
 use Rattle.std.specs.Prelude.{IfNone}
 use Rattle.std.specs.Option.{option_or}
-use Rattle.std.proofs.Common.{◌≡◌, ℕ, ◌<◌, arith, get_or, length, List, [], ◌∷◌, Option, Some, None, sym, refl, ◌∙◌, ◌⊎◌, inl, inr, subst}
-use Rattle.ssu_line.specs.declared.section_kind.SectionKind.{SectionKind}
-use Rattle.ssu_line.specs.declared.section_kind.SectionKind.TheVariants.{Pat, Pmt, Nit, Bat, Tdt, Tot, Unt, Dsi, Dii, Ddb}
+use Rattle.std.proofs.Common.{◌≡◌, ℕ, ◌<◌, arith, get_or, length, List, [], ◌∷◌, Option, Some, None, sym, refl, inl, inr}
+use Rattle.section_kind.specs.declared.section_kinds.SectionKind.{SectionKind}
+use Rattle.section_kind.specs.declared.section_kinds.SectionKind.TheVariants.{Pat, Pmt, Tdt, Tot, Unt, Dsi, Dii, Ddb}
 use Rattle.si_table.specs.Tables.{NetFields, PatFields, PmtFields, net, pat, pmt}
 use Rattle.ssu_time.specs.UtcField.{TimeFields}
 use Rattle.si_table.specs.Times.{TotFields, tdt, tot}
 use Rattle.ssu_unt.specs.Table.{UntFields, unt}
 use Rattle.dsmcc_msg.specs.Control.{DiiFields, DsiFields, dii, dsi}
 use Rattle.dsmcc_msg.specs.Block.{DdbFields, ddb}
-use Rattle.section_kind.specs.Kinds.{IsOfNoKind, kind_by, kind_of, dsi_kind, nit_or_bat, time_of}
+use Rattle.section_kind.specs.Kinds.{IsOfNoKind, kind_by, kind_of, dsi_kind, nit_or_bat, utc_of}
 use Rattle.section_kind.proofs.Heads.{Begins, pat_begins, pmt_begins, net_begins, tdt_begins, tot_begins, unt_begins, dsi_begins, dii_begins, ddb_begins}
 
 -- the section has a kind
@@ -38,11 +38,11 @@ bat_has rest n e = (nit_or_bat n, rw e refl)
 
 tdt_has : (rest : List ℕ) (t : TimeFields) → tdt.of (0x70 ∷ rest) ≡ Some t → HasKind (0x70 ∷ rest)
 unfolding kind_of
-tdt_has rest t e = (Tdt (time_of t), rw e refl)
+tdt_has rest t e = (Tdt (utc_of t), rw e refl)
 
 tot_has : (rest : List ℕ) (t : TotFields) → tot.of (0x73 ∷ rest) ≡ Some t → HasKind (0x73 ∷ rest)
 unfolding kind_of
-tot_has rest t e = (Tot (time_of t.time), rw e refl)
+tot_has rest t e = (Tot (utc_of t.time), rw e refl)
 
 unt_has : (rest : List ℕ) (u : UntFields) → unt.of (0x4B ∷ rest) ≡ Some u → HasKind (0x4B ∷ rest)
 unfolding kind_of

@@ -1,10 +1,10 @@
 -- What a section is, by its table_id and, of the control messages, its messageId: of a kind exactly where that reader accepts it.
-use Rattle.std.specs.Prelude.{◌≡◌, ℕ, ◌%◌, zero, suc, ◌==◌, ◌||◌, List, [], ◌∷◌, Option, Some, None, if◌then◌else◌, refl}
+use Rattle.std.specs.Prelude.{◌≡◌, ℕ, ◌%◌, ◌==◌, ◌||◌, List, [], ◌∷◌, Option, None, if◌then◌else◌}
 use Rattle.std.specs.Option.{option_map, option_or}
 use Rattle.std.proofs.Common.{lit<}
 use Rattle.std.proofs.Math.Nat.{mod-lt}
-use Rattle.ssu_line.specs.declared.section_kind.SectionKind.{SectionKind}
-use Rattle.ssu_line.specs.declared.section_kind.SectionKind.TheVariants.{Pat, Pmt, Nit, Bat, Tdt, Tot, Unt, Dsi, Dii, Ddb}
+use Rattle.section_kind.specs.declared.section_kinds.SectionKind.{SectionKind}
+use Rattle.section_kind.specs.declared.section_kinds.SectionKind.TheVariants.{Pat, Pmt, Nit, Bat, Tdt, Tot, Unt, Dsi, Dii, Ddb}
 use Rattle.ssu_time.specs.UtcField.{TimeFields}
 use Rattle.ssu_time.specs.declared.utc_time.Utc.{Utc}
 use Rattle.si_table.specs.Tables.{NetFields, net, pat, pmt}
@@ -27,14 +27,14 @@ abbrev pub net_kind : List ℕ → Option SectionKind
 net_kind section = option_map nit_or_bat (net.of section)
 
 -- a time that was read lies in its day already
-abbrev pub time_of : TimeFields → Utc
-time_of t = record { mjd = t.mjd; second = t.second % 86400; in_day = mod-lt t.second (lit< tt) }
+abbrev pub utc_of : TimeFields → Utc
+utc_of t = record { mjd = t.mjd; second = t.second % 86400; in_day = mod-lt t.second (lit< tt) }
 
 abbrev pub tdt_kind : List ℕ → Option SectionKind
-tdt_kind section = option_map (λ t. Tdt (time_of t)) (tdt.of section)
+tdt_kind section = option_map (λ t. Tdt (utc_of t)) (tdt.of section)
 
 abbrev pub tot_kind : List ℕ → Option SectionKind
-tot_kind section = option_map (λ t. Tot (time_of t.time)) (tot.of section)
+tot_kind section = option_map (λ t. Tot (utc_of t.time)) (tot.of section)
 
 abbrev pub unt_kind : List ℕ → Option SectionKind
 unt_kind section = option_map (λ _. Unt) (unt.of section)

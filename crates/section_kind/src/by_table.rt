@@ -3,7 +3,7 @@ ghost use Rattle.std.specs.Prelude.{◌≡◌, IfNone};
 ghost use Rattle.section_kind.specs.Kinds.{IsOfNoKind, kind_by, kind_of};
 
 use crate::readers::{block, control, net, pat, pmt, tdt, tot, unt};
-use ssu_line::SectionKind;
+use crate::section_kinds::SectionKind;
 
 /// What the section is. `None` comes exactly where no reader accepts it.
 pub fn kind(section: &[u8]) -> Option<SectionKind>

@@ -3,8 +3,7 @@
 
 mod by_table;
 mod readers;
-#[cfg(test)]
-mod tests;
+mod section_kinds;
 
 pub use by_table::kind;
-pub use ssu_line::SectionKind;
+pub use section_kinds::SectionKind;

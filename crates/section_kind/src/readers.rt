@@ -2,9 +2,9 @@
 ghost use Rattle.std.specs.Prelude.{◌≡◌};
 ghost use Rattle.section_kind.specs.Kinds.{block_kind, control_kind, dii_kind, dsi_kind, net_kind, pat_kind, pmt_kind, tdt_kind, tot_kind, unt_kind};
 
+use crate::section_kinds::SectionKind;
 use dsmcc_msg::{Ddb, Dii, Dsi};
 use si_table::{Net, Pat, Pmt, Tdt, Tot};
-use ssu_line::SectionKind;
 use ssu_unt::Unt;
 
 pub(crate) fn pat(section: &[u8]) -> Option<SectionKind>

@@ -1,6 +1,7 @@
 -- What is written is a spelling.
 use Rattle.std.proofs.Common.{ℕ, ◌+◌, ◌*◌, ◌<◌, ◌^◌, List, [], ◌∷◌, ◌++◌, length, refl, arith, false}
-use Rattle.wire.specs.Number.{bytes_of, number1_put, number2_put, number3_put, low_put}
+use Rattle.wire.specs.Number.{bytes_of}
+use Rattle.wire.proofs.Numbers.{number1_put, number2_put, number3_put, low_put}
 use Rattle.si_desc.specs.Descriptors.{descriptor, stream_identifier}
 use Rattle.si_desc.specs.Linkage.{OuiFields, linkage, oui_entry, update_ouis}
 use Rattle.si_desc.specs.SsuInfo.{InfoFields, info, update_infos}

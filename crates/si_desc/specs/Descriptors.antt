@@ -2,9 +2,9 @@
 use Rattle.std.specs.Prelude.{ℕ, ◌==◌, List, Option}
 use Rattle.std.specs.List.{find}
 use Rattle.std.specs.Option.{option_map}
-use Rattle.wire.specs.Format.{Front, Whole, reads, ◌&◌, sized, rest, only, to_end}
+use Rattle.wire.specs.Format.{Front, Whole, reads, ◌&◌, sized, rest, only, kept, to_end}
 use Rattle.wire.specs.Items.{items_of}
-use Rattle.wire.specs.Number.{number}
+use Rattle.wire.specs.Number.{number, low}
 
 pub record DescFields : Type 0 where
   pub tag : ℕ
@@ -27,6 +27,10 @@ row = to_end descriptor
 abbrev pub IsRow : List ℕ → Type 0
 IsRow bytes = (ds : List DescFields) × row.Spells ds bytes
 
+-- 4 reserved bits, a length of 12 and a row of descriptors of that length, as its bytes
+unfoldable pub sized_row : Front (List ℕ)
+sized_row = sized (low 2 12) (kept row)
+
 -- the descriptors that stand whole at the front of the bytes
 abbrev pub whole_descriptors : List ℕ → List DescFields
 whole_descriptors bytes = items_of descriptor bytes
@@ -41,3 +45,7 @@ first_body tag bytes = option_map body_of (find (λ d. d.tag == tag) (whole_desc
 -- stream_identifier_descriptor, tag 0x52 (EN 300 468 6.2.39): component_tag 8, and nothing else
 unfoldable pub stream_identifier : Whole ℕ
 stream_identifier = only (number 1)
+
+-- ssu_subgroup_association_descriptor, tag 0x0B (ETSI TS 102 006 9.6): the subgroup 40, and nothing else
+unfoldable pub subgroup_association : Whole ℕ
+subgroup_association = only (number 5)

@@ -1,10 +1,14 @@
 -- The descriptors that are written: ETSI EN 300 468 6.2, ETSI TS 102 006.
-use Rattle.std.specs.Prelude.{ℕ, ◌+◌, ◌*◌, List, [], ◌∷◌, ◌++◌, false}
-use Rattle.wire.specs.Number.{bytes_of}
+use Rattle.std.specs.Prelude.{ℕ, ◌+◌, ◌*◌, List, [], ◌∷◌, ◌++◌, length, false}
+use Rattle.wire.specs.Number.{bytes_of, length_bytes}
 use Rattle.si_desc.specs.declared.linkages.ServiceRef.{ServiceRef}
 use Rattle.si_desc.specs.Descriptors.{descriptor, stream_identifier}
 use Rattle.si_desc.specs.Linkage.{linkage, update_ouis}
 use Rattle.si_desc.specs.SsuInfo.{update_infos}
+
+-- a row behind its length of 12 bits
+abbrev pub row_bytes : List ℕ → List ℕ
+row_bytes row = length_bytes (length row) ++ row
 
 abbrev pub service_of : ℕ → ℕ → ℕ → ServiceRef
 service_of ts network service = record { ts = ts; network = network; service = service }

@@ -21,7 +21,7 @@ pub fn component_tag(body: &[u8]) -> Option<u8>
     }
 }
 
-/// Appends a stream identifier descriptor of that component tag.
+/// Appends a stream identifier descriptor of that component tag. `NoMemory` leaves `out` as it was.
 pub fn put_component_tag(out: &mut Vec<u8>, tag: u8) -> Result<(), NoMemory>
     ensures put { OnOk result (out.new.items ≡ out.old.items ++ component_bytes tag) }
     ensures read_back { OnOk result (IsComponentTag tag (component_bytes tag)) }

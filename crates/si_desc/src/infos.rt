@@ -19,6 +19,7 @@ pub type InfoRow<'a> = Items<'a, SsuInfo<'a>>;
 /// How the software of an OUI is updated.
 #[derive(Debug, Drop)]
 pub struct SsuInfo<'a> {
+    /// The OUI.
     pub oui: Oui,
     /// 1 is a standard carousel without a notification table, 2 one with a table by broadcast.
     pub update_type: u8,
@@ -26,6 +27,7 @@ pub struct SsuInfo<'a> {
     pub versioned: bool,
     /// update_version, 0 to 31.
     pub version: u8,
+    /// The bytes of the entry's own selector.
     pub selector: &'a [u8],
 }
 
@@ -86,8 +88,8 @@ fn infos_of(body: &[u8]) -> Option<InfoRow<'_>>
     Items::to_end(inside)
 }
 
-/// Appends a data broadcast id descriptor of id 0x000A, with one entry of the OUI and type, without a
-/// version and with no selector.
+/// Appends a data broadcast id descriptor of id 0x000A, with one entry of the OUI and type, below 16, without a
+/// version and with no selector. `NoMemory` leaves `out` as it was.
 pub fn put_ssu_info(out: &mut Vec<u8>, oui: Oui, update_type: u8) -> Result<(), NoMemory>
     requires { update_type < 16 }
     ensures put { OnOk result (out.new.items ≡ out.old.items ++ info_bytes oui update_type) }

@@ -16,14 +16,18 @@ use wire::{Item, Items, raw_at, u8_at, u16_at, u24_at};
 /// A service, by the transport stream, the original network and the number that it has there.
 #[derive(Clone, Copy, Debug, PartialEq, Eq)]
 pub struct ServiceRef {
+    /// transport_stream_id.
     pub ts: u16,
+    /// original_network_id.
     pub network: u16,
+    /// service_id.
     pub service: u16,
 }
 
 /// A linkage to a service.
 #[derive(Debug, Drop)]
 pub struct Linkage<'a> {
+    /// The service that it leads to.
     pub to: ServiceRef,
     /// linkage_type.
     pub kind: u8,
@@ -71,7 +75,8 @@ pub fn lists_oui(rest: &[u8], oui: Oui) -> Option<bool>
     Some(has_oui(entries, oui))
 }
 
-/// Appends a linkage descriptor of type 0x09 to the service, with one OUI and no selector.
+/// Appends a linkage descriptor of type 0x09 to the service, with one OUI and no selector. `NoMemory` leaves `out` as it
+/// was.
 pub fn put_linkage(out: &mut Vec<u8>, to: ServiceRef, oui: Oui) -> Result<(), NoMemory>
     ensures put { OnOk result (out.new.items ≡ out.old.items ++ linkage_bytes to oui) }
     ensures read_back { OnOk result (IsUpdateLinkage to oui (linkage_bytes to oui)) }

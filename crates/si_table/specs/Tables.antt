@@ -1,22 +1,18 @@
 -- Tables of program specific information (ISO/IEC 13818-1, 2.4.4) and of service information (ETSI EN 300 468, 5.2).
 -- Each stands in a section of the long form, and reserved bits are free.
 use Rattle.std.specs.Prelude.{ℕ, Bool, ◌&&◌, ◌||◌, ◌==◌, nat_le, List, length}
-use Rattle.wire.specs.Format.{Front, Whole, reads, ◌&◌, ◌then◌, sized, only, kept, to_end, checked, whole_such, whole_reads}
+use Rattle.wire.specs.Format.{Front, Whole, reads, ◌&◌, ◌then◌, sized, only, to_end, checked, whole_reads}
 use Rattle.wire.specs.Number.{number, low}
-use Rattle.section_form.specs.Long.{LongFields, long_form}
-use Rattle.si_desc.specs.Descriptors.{row}
-use Rattle.wire.specs.Inside.{inside}
+use Rattle.section_form.specs.Long.{LongFields, has_table, section_of}
+use Rattle.si_desc.specs.Descriptors.{sized_row}
 
 -- section_length is at most 1021
 abbrev pub fits_a_table : List ℕ → Bool
 fits_a_table section = nat_le (length section) 1024
 
-abbrev pub body_of : LongFields → List ℕ
-body_of s = s.body
-
--- a section of the long form whose head passes the test, and what its body is
+-- a section of the long form whose fields pass the test, and what its body is
 abbrev pub table_of : {A : Type 0} → (LongFields → Bool) → Whole A → Whole (LongFields × A)
-table_of is_head body = checked fits_a_table (inside (whole_such is_head long_form) body_of body)
+table_of is_head body = checked fits_a_table (section_of is_head body)
 
 -- ---- PAT: table_id 0x00, 2.4.4.3
 
@@ -38,14 +34,11 @@ pub record PatFields : Type 0 where
   pub ts : ℕ
   pub programs : List ProgramFields
 
-abbrev pub is_pat : LongFields → Bool
-is_pat s = s.table == 0x00
-
 abbrev pub pat_fields : LongFields × List ProgramFields → PatFields
 pat_fields x = record { ts = x.0.extension; programs = x.1 }
 
 unfoldable pub pat : Whole PatFields
-pat = whole_reads pat_fields (table_of is_pat (to_end program))
+pat = whole_reads pat_fields (table_of (has_table 0x00) (to_end program))
 
 -- ---- PMT: table_id 0x02, section 0 of 0, 2.4.4.8
 
@@ -62,7 +55,7 @@ unfoldable pub stream : Front StreamFields
 stream = reads stream_fields (
     number 1 &
     low 2 13 &
-    sized (low 2 12) (kept row))
+    sized_row)
 
 -- table_id_extension is program_number
 pub record PmtFields : Type 0 where
@@ -78,7 +71,7 @@ is_pmt s = s.table == 0x02 && s.number == 0 && s.last == 0
 unfoldable pub pmt_body : Whole (ℕ × (List ℕ × List StreamFields))
 pmt_body =
     low 2 13 then λ _.
-    sized (low 2 12) (kept row) then λ _.
+    sized_row then λ _.
     to_end stream
 
 abbrev pub pmt_fields : LongFields × (ℕ × (List ℕ × List StreamFields)) → PmtFields
@@ -102,7 +95,7 @@ unfoldable pub net_entry : Front NetEntryFields
 net_entry = reads net_entry_fields (
     number 2 &
     number 2 &
-    sized (low 2 12) (kept row))
+    sized_row)
 
 -- table_id_extension is network_id or bouquet_id
 pub record NetFields : Type 0 where
@@ -117,7 +110,7 @@ is_net s = s.table == 0x40 || s.table == 0x4A
 -- 4 reserved bits, a length 12 and a row of descriptors; 4 reserved bits, a length 12 and entries, which fill it
 unfoldable pub net_body : Whole (List ℕ × List NetEntryFields)
 net_body = only (
-    sized (low 2 12) (kept row) &
+    sized_row &
     sized (low 2 12) (to_end net_entry))
 
 abbrev pub net_fields : LongFields × (List ℕ × List NetEntryFields) → NetFields

@@ -1,9 +1,9 @@
 -- TDT and TOT: ETSI EN 300 468, 5.2.5 and 5.2.6.
 use Rattle.std.specs.Prelude.{ℕ, ◌/◌, ◌^◌, Bool, ◌==◌, List}
-use Rattle.wire.specs.Format.{Front, Whole, reads, such, fixed, ◌&◌, sized, only, before, kept, checked, whole_reads}
-use Rattle.wire.specs.Number.{number, low}
+use Rattle.wire.specs.Format.{Front, Whole, reads, such, fixed, ◌&◌, sized, only, before, checked, whole_reads}
+use Rattle.wire.specs.Number.{number}
 use Rattle.section_form.specs.Long.{has_right_crc, length_of}
-use Rattle.si_desc.specs.Descriptors.{row}
+use Rattle.si_desc.specs.Descriptors.{sized_row}
 use Rattle.ssu_time.specs.UtcField.{TimeFields, utc}
 use Rattle.si_table.specs.Tables.{fits_a_table}
 
@@ -34,7 +34,7 @@ tot_fields x = record { time = x.1.0; info = x.1.1 }
 unfoldable pub tot_inside : Whole (TimeFields × List ℕ)
 tot_inside = before 4 (only (
     utc &
-    sized (low 2 12) (kept row)))
+    sized_row))
 
 -- table_id 8: 0x73; section_length and that many bytes. The CRC over all bytes is 0.
 unfoldable pub tot : Whole TotFields

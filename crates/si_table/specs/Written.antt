@@ -1,9 +1,9 @@
 -- The spelling that the writers make: reserved bits are ones, the version is 0, and the section is number 0 of 0.
 use Rattle.std.specs.Prelude.{ℕ, ◌+◌, ◌*◌, ◌^◌, true, false, List, ◌++◌, length}
-use Rattle.wire.specs.Number.{bytes_of}
+use Rattle.wire.specs.Number.{bytes_of, length_bytes}
 use Rattle.ts_crc.specs.Crc.{crc_of}
-use Rattle.section_form.specs.Long.{LongFields}
-use Rattle.section_form.specs.Written.{long_bytes}
+use Rattle.section_form.specs.Written.{long_bytes, only_section}
+use Rattle.si_desc.specs.Written.{row_bytes}
 use Rattle.ssu_time.specs.UtcField.{TimeFields}
 use Rattle.ssu_time.specs.UtcTime.{utc_bytes}
 use Rattle.si_table.specs.Tables.{ProgramFields, StreamFields}
@@ -12,29 +12,21 @@ use Rattle.si_table.specs.Tables.{ProgramFields, StreamFields}
 abbrev pub pid_bytes : ℕ → List ℕ
 pid_bytes pid = bytes_of 2 (7 * 2 ^ 13 + pid)
 
--- 4 reserved bits and a length of 12
-abbrev pub length_bytes : ℕ → List ℕ
-length_bytes n = bytes_of 2 (15 * 2 ^ 12 + n)
-
-abbrev pub head : ℕ → ℕ → List ℕ → LongFields
-head table extension body = record { table = table; extension = extension; version = 0; number = 0; last = 0; body = body }
-
 -- ---- PAT of one program
 
 abbrev pub program_bytes : ProgramFields → List ℕ
 program_bytes p = bytes_of 2 p.number ++ pid_bytes p.pid
 
 unfoldable pub pat_bytes : ℕ → ProgramFields → List ℕ
-pat_bytes ts p = long_bytes false (head 0x00 ts (program_bytes p))
+pat_bytes ts p = long_bytes false (only_section 0x00 ts 0 (program_bytes p))
 
 -- ---- PMT without a PCR and with no program descriptors
 
 abbrev pub stream_bytes : StreamFields → List ℕ
 stream_bytes s =
     bytes_of 1 s.kind ++ (
-    pid_bytes s.pid ++ (
-    length_bytes (length s.info) ++
-    s.info))
+    pid_bytes s.pid ++
+    row_bytes s.info)
 
 -- A PMT that is being written: its streams, and the bytes that these are written as.
 pub record PmtDraft : Type 0 where
@@ -49,7 +41,7 @@ pmt_body_bytes streams =
     streams)
 
 unfoldable pub pmt_bytes : PmtDraft → List ℕ
-pmt_bytes d = long_bytes false (head 0x02 d.program (pmt_body_bytes d.bytes))
+pmt_bytes d = long_bytes false (only_section 0x02 d.program 0 (pmt_body_bytes d.bytes))
 
 -- section_length of a PMT whose streams have so many bytes: 9 of the section, 4 before the streams
 abbrev pub pmt_section_length : ℕ → ℕ
@@ -65,13 +57,12 @@ entry_bytes ts network =
 
 abbrev pub net_body_bytes : List ℕ → ℕ → ℕ → List ℕ
 net_body_bytes info ts network =
-    length_bytes (length info) ++ (
-    info ++ (
+    row_bytes info ++ (
     length_bytes 6 ++
-    entry_bytes ts network))
+    entry_bytes ts network)
 
 unfoldable pub net_bytes : ℕ → ℕ → List ℕ → ℕ → ℕ → List ℕ
-net_bytes table id info ts network = long_bytes true (head table id (net_body_bytes info ts network))
+net_bytes table id info ts network = long_bytes true (only_section table id 0 (net_body_bytes info ts network))
 
 -- section_length of a NIT or BAT whose first row has so many bytes: 9 of the section, 2 before and 8 behind the row
 abbrev pub net_section_length : ℕ → ℕ
@@ -90,9 +81,8 @@ abbrev pub tot_text : TimeFields → List ℕ → List ℕ
 tot_text t info =
     bytes_of 1 0x73 ++ (
     bytes_of 2 (7 * 2 ^ 12 + tot_section_length (length info)) ++ (
-    utc_bytes t.mjd t.second ++ (
-    length_bytes (length info) ++
-    info)))
+    utc_bytes t.mjd t.second ++
+    row_bytes info))
 
 unfoldable pub tot_bytes : TimeFields → List ℕ → List ℕ
 tot_bytes t info = tot_text t info ++ bytes_of 4 (crc_of (tot_text t info))

@@ -4,13 +4,9 @@
 
 mod fields;
 mod net;
-#[cfg(test)]
-mod outside;
 mod pat;
 mod pmt;
 mod pmt_writer;
-#[cfg(test)]
-mod tests;
 mod times;
 mod writing;
 

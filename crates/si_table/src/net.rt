@@ -8,9 +8,9 @@ ghost use Rattle.wire.specs.Read.{Reads};
 ghost use Rattle.si_table.specs.Tables.{NetFields, net, net_body, net_entry};
 ghost use Rattle.si_table.specs.Views.{net_view};
 
-use crate::fields::{length_at, row_at};
 use section_form::long;
-use wire::{Item, Items, raw_at, u16_at};
+use si_desc::row_at;
+use wire::{Item, Items, length_at, raw_at, u16_at};
 
 /// The entries of a NIT or a BAT, in its order.
 pub type Entries<'a> = Items<'a, NetEntry<'a>>;

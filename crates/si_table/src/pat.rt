@@ -18,7 +18,9 @@ pub type Programs<'a> = Items<'a, Program>;
 /// A program and the PID of its PMT; program 0 names the PID of the network.
 #[derive(Clone, Copy, Debug, PartialEq, Eq)]
 pub struct Program {
+    /// program_number.
     pub number: u16,
+    /// program_map_PID, or network_PID for program 0.
     pub pid: Pid,
 }
 

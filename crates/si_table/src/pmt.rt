@@ -7,8 +7,9 @@ ghost use Rattle.wire.specs.Read.{Reads};
 ghost use Rattle.si_table.specs.Tables.{PmtFields, pmt, pmt_body, stream};
 ghost use Rattle.si_table.specs.Views.{pmt_view};
 
-use crate::fields::{pid_at, row_at};
+use crate::fields::pid_at;
 use section_form::long;
+use si_desc::row_at;
 use ts_packet::Pid;
 use wire::{Item, Items, u8_at};
 
@@ -20,6 +21,7 @@ pub type Streams<'a> = Items<'a, Stream<'a>>;
 pub struct Stream<'a> {
     /// stream_type.
     pub kind: u8,
+    /// elementary_PID.
     pub pid: Pid,
     /// Its row of descriptors.
     pub info: &'a [u8],

@@ -5,13 +5,13 @@ ghost use Rattle.si_desc.specs.Descriptors.{IsRow};
 ghost use Rattle.si_table.specs.Tables.{pmt};
 ghost use Rattle.si_table.specs.Written.{stream_bytes, pmt_body_bytes, pmt_bytes, pmt_section_length};
 
-use crate::writing::table_section;
-use section_form::MakeFault;
+use section_form::{MakeFault, table_section};
+use si_desc::put_row;
 use ssu_io::NoMemory;
 use std::alloc::Global;
 use std::marker::Model;
 use ts_packet::Pid;
-use wire::{put_u8, put_u16};
+use wire::{put_length, put_u8, put_u16};
 
 /// The most bytes of streams that a section has room for.
 const MOST: usize = 1008;
@@ -44,7 +44,7 @@ impl Model for PmtWriter {
 }
 
 impl PmtWriter {
-    /// A PMT without streams.
+    /// A PMT without streams. `NoMemory` is the one refusal.
     pub fn new(alloc: Global, program: u16) -> Result<PmtWriter, NoMemory>
         ensures { IfOk result (λ w. w ≡ record { program = program; streams = []; bytes = [] }) }
     {
@@ -55,7 +55,8 @@ impl PmtWriter {
         })
     }
 
-    /// Adds a stream. `info` is a row of whole descriptors.
+    /// Adds a stream. `info` is a row of whole descriptors. `TooLong` comes exactly where section_length would pass
+    /// 1,021, `Memory` where memory runs out; the writer is then unchanged.
     pub fn stream(&mut self, kind: u8, pid: Pid, info: &[u8]) -> Result<(), MakeFault>
         requires { IsRow info.now }
         ensures ok { OnOk result (self.new ≡ record self.old {
@@ -75,7 +76,7 @@ impl PmtWriter {
         Ok(())
     }
 
-    /// The section. Want of memory hands the writer back.
+    /// The section. `NoMemory` is the one refusal, and hands the writer back as it was.
     pub fn finish(self) -> Result<Vec<u8>, (PmtWriter, NoMemory)>
         ensures made { IfOk result (λ s. s.items ≡ pmt_bytes self) }
         // It is read back with the fields written.
@@ -104,7 +105,7 @@ impl PmtWriter {
         }) s.items) }
     {
         let body = pmt_body(self.alloc, &self.streams)?;
-        let section = table_section(self.alloc, 0x02, self.program, &body, false)?;
+        let section = table_section(self.alloc, 0x02, self.program, 0, &body, false)?;
         Ok(section)
     }
 }
@@ -114,7 +115,7 @@ fn pmt_body(alloc: Global, streams: &[u8]) -> Result<Vec<u8>, NoMemory>
 {
     let mut body = Vec::new(alloc);
     put_u16(&mut body, 0xFFFF)?;
-    put_u16(&mut body, 0xF000)?;
+    put_length(&mut body, 0)?;
     body.extend_from_slice(streams)?;
     Ok(body)
 }
@@ -128,7 +129,6 @@ fn stream_piece(alloc: Global, kind: u8, pid: u16, info: &[u8]) -> Result<Vec<u8
     let mut piece = Vec::new(alloc);
     put_u8(&mut piece, kind)?;
     put_u16(&mut piece, 0xE000 + pid)?;
-    put_u16(&mut piece, 0xF000 + info.len() as u16)?;
-    piece.extend_from_slice(info)?;
+    put_row(&mut piece, info)?;
     Ok(piece)
 }

@@ -7,7 +7,7 @@ ghost use Rattle.ssu_time.specs.UtcField.{TimeFields, time_view};
 ghost use Rattle.si_table.specs.Times.{TotFields, short_head, tdt, tot, tot_inside};
 ghost use Rattle.si_table.specs.Views.{tdt_view, tot_view};
 
-use crate::fields::row_at;
+use si_desc::row_at;
 use ssu_time::{Utc, utc_at};
 use ts_crc::crc;
 use wire::{raw_at, u8_at, u16_at};
@@ -15,6 +15,7 @@ use wire::{raw_at, u8_at, u16_at};
 /// A time and date table.
 #[derive(Clone, Copy, Debug, PartialEq, Eq)]
 pub struct Tdt {
+    /// UTC_time.
     pub time: Utc,
 }
 
@@ -34,6 +35,7 @@ impl Tdt {
 /// A time offset table.
 #[derive(Clone, Copy, Debug)]
 pub struct Tot<'a> {
+    /// UTC_time.
     pub time: Utc,
     /// Its row of descriptors.
     pub info: &'a [u8],

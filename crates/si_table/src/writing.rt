@@ -1,45 +1,21 @@
 //! Writing PAT, NIT, BAT, TDT and TOT: version 0, section 0 of 0; reserved bits are ones.
 
 ghost use Rattle.std.specs.Prelude.{◌≡◌, ◌⊎◌, ◌↔◌, ◌<◌, ◌≤◌, [], ◌∷◌, length, Err, IfOk};
-ghost use Rattle.section_form.specs.Long.{long_form};
-ghost use Rattle.section_form.specs.Written.{long_bytes};
 ghost use Rattle.si_desc.specs.Descriptors.{IsRow};
 ghost use Rattle.ssu_time.specs.UtcField.{time_view};
 ghost use Rattle.si_table.specs.Tables.{pat, net};
 ghost use Rattle.si_table.specs.Times.{tdt, tot};
-ghost use Rattle.si_table.specs.Written.{head, pat_bytes, net_body_bytes, net_bytes, net_section_length, tdt_bytes, tot_text, tot_bytes, tot_section_length};
+ghost use Rattle.si_table.specs.Written.{pat_bytes, net_body_bytes, net_bytes, net_section_length, tdt_bytes, tot_text, tot_bytes, tot_section_length};
 
-use section_form::{LongForm, MakeFault, long_section};
+use section_form::{MakeFault, table_section};
+use si_desc::put_row;
 use ssu_io::NoMemory;
 use ssu_time::{Utc, write_utc};
 use std::alloc::Global;
 use ts_packet::Pid;
-use wire::{put_u8, put_u16, put_u32};
+use wire::{put_length, put_u8, put_u16, put_u32};
 
-/// A section of version 0, number 0 of 0.
-pub(crate) fn table_section(
-    alloc: Global,
-    table: u8,
-    extension: u16,
-    body: &[u8],
-    second_bit: bool,
-) -> Result<Vec<u8>, NoMemory>
-    requires { length body.now ≤ 4084 }
-    ensures made { IfOk result (λ s. s.items ≡ long_bytes second_bit (head table extension body.now)) }
-    ensures long { IfOk result (λ s. long_form.of s.items ≡ Some (head table extension body.now)) }
-{
-    let head = LongForm {
-        table,
-        extension,
-        version: 0,
-        number: 0,
-        last: 0,
-        body,
-    };
-    long_section(alloc, head, second_bit)
-}
-
-/// A PAT of one program.
+/// A PAT of one program. `NoMemory` is the one refusal.
 #[tactic(auto, unfolding(crate::specs::Written::pat_bytes))]
 pub fn write_pat(alloc: Global, ts: u16, program: u16, pmt: Pid) -> Result<Vec<u8>, NoMemory>
     ensures made { IfOk result (λ s. s.items ≡ pat_bytes ts (record { number = program; pid = pmt })) }
@@ -49,12 +25,13 @@ pub fn write_pat(alloc: Global, ts: u16, program: u16, pmt: Pid) -> Result<Vec<u
     let mut body = Vec::new(alloc);
     put_u16(&mut body, program)?;
     put_u16(&mut body, 0xE000 + pmt.get())?;
-    let section = table_section(alloc, 0x00, ts, &body, false)?;
+    let section = table_section(alloc, 0x00, ts, 0, &body, false)?;
     Ok(section)
 }
 
 /// A NIT, `table` 0x40, or a BAT, `table` 0x4A, with one entry, which has no descriptors. `info` is a row of whole
-/// descriptors.
+/// descriptors. `TooLong` comes exactly where `info` has more than 1,002 bytes, so that section_length would pass 1,021;
+/// `Memory` where memory runs out.
 #[tactic(auto, unfolding(crate::specs::Written::net_bytes))]
 pub fn write_net(
     alloc: Global,
@@ -80,7 +57,7 @@ pub fn write_net(
         return Err(MakeFault::TooLong);
     }
     let body = net_body(alloc, info, ts, network)?;
-    let section = table_section(alloc, table, id, &body, true)?;
+    let section = table_section(alloc, table, id, 0, &body, true)?;
     Ok(section)
 }
 
@@ -89,16 +66,15 @@ fn net_body(alloc: Global, info: &[u8], ts: u16, network: u16) -> Result<Vec<u8>
     ensures { IfOk result (λ b. b.items ≡ net_body_bytes info.now ts network) }
 {
     let mut body = Vec::new(alloc);
-    put_u16(&mut body, 0xF000 + info.len() as u16)?;
-    body.extend_from_slice(info)?;
-    put_u16(&mut body, 0xF006)?;
+    put_row(&mut body, info)?;
+    put_length(&mut body, 6)?;
     put_u16(&mut body, ts)?;
     put_u16(&mut body, network)?;
-    put_u16(&mut body, 0xF000)?;
+    put_length(&mut body, 0)?;
     Ok(body)
 }
 
-/// A TDT.
+/// A TDT. `NoMemory` is the one refusal.
 pub fn write_tdt(alloc: Global, time: Utc) -> Result<Vec<u8>, NoMemory>
     ensures made { IfOk result (λ s. s.items ≡ tdt_bytes (time_view time)) }
     // It is read back with the time written.
@@ -111,7 +87,8 @@ pub fn write_tdt(alloc: Global, time: Utc) -> Result<Vec<u8>, NoMemory>
     Ok(out)
 }
 
-/// A TOT. `info` is a row of whole descriptors.
+/// A TOT. `info` is a row of whole descriptors. `TooLong` comes exactly where it has more than 1,010 bytes, so that
+/// section_length would pass 1,021; `Memory` where memory runs out.
 #[tactic(auto, unfolding(crate::specs::Written::tot_bytes))]
 pub fn write_tot(alloc: Global, time: Utc, info: &[u8]) -> Result<Vec<u8>, MakeFault>
     requires { IsRow info.now }
@@ -138,7 +115,6 @@ fn tot_front(alloc: Global, time: Utc, info: &[u8]) -> Result<Vec<u8>, NoMemory>
     put_u8(&mut out, 0x73)?;
     put_u16(&mut out, 0x7000 + 11 + info.len() as u16)?;
     out.extend_from_slice(&write_utc(time))?;
-    put_u16(&mut out, 0xF000 + info.len() as u16)?;
-    out.extend_from_slice(info)?;
+    put_row(&mut out, info)?;
     Ok(out)
 }

@@ -1,15 +1,18 @@
 //! `ssu FOLDER COMMAND ARGUMENTS`: DVB System Software Update over the files of a folder.
 #![tactic(auto)]
 
+mod making;
+
 use flash_dev::FileFlash;
-use ssu_io::{RealSink, RealSource, Sink, StdSink};
-use ssu_shelf::FolderShelf;
-use ssu_status::{Status, made_file};
+use making::MadeFile;
+use ssu_io::{FolderShelf, RealSink, RealSource, Sink, StdSink};
+use ssu_status::{Command, Status, made_file};
 use ssu_tool::run;
 use std::alloc::{AllocError, Global};
+use std::fs::File;
 use std::process::ExitCode;
 use std::rt::{Env, Files};
-use std::{env, io};
+use std::{env, fs, io};
 
 const HELP: &str = "usage: ssu FOLDER COMMAND ARGUMENTS
 
@@ -80,21 +83,83 @@ fn printed(rt: &impl Print, text: &str) -> Status {
     }
 }
 
-/// Runs the command on the files of the folder, which is the first word.
+/// Runs the command on the files of the folder, which is the first word. Wrong words open nothing.
 fn in_folder(
     rt: &(impl Files + Print + AllocGlobal),
     words: &[String],
 ) -> Result<Status, AllocError> {
+    let command = Command::parse(words);
+    if command.is_none() {
+        return on_files(rt, words, command);
+    }
+    match guard(rt) {
+        Ok(_held) => on_files(rt, words, command),
+        Err(_) => Ok(Status::WriteFault),
+    }
+}
+
+/// What lies under the numbers of standard input, output and error where those were closed, and else under three more.
+type Guard<R> = (<R as Files>::File, <R as Files>::File, <R as Files>::File);
+
+/// Opens a folder for reading, three times. The system gives each opening the lowest number that is free, so while these
+/// are held no file of a command comes under the number of standard input, output or error, also where one of them was
+/// closed. What is written there then, or read, is a fault, as it is where nothing is open.
+fn guard<R: Files>(rt: &R) -> io::Result<Guard<R>> {
+    let opened = || File::open(rt, "/");
+    Ok((opened()?, opened()?, opened()?))
+}
+
+/// Makes the adapters and runs the command. The flash is opened at once, each other file at the first call on it.
+fn on_files(
+    rt: &(impl Files + Print + AllocGlobal),
+    words: &[String],
+    command: Option<Command>,
+) -> Result<Status, AllocError> {
     let alloc = rt.alloc();
-    let folder = words.first().map_or("", |word| word.as_str());
+    let folder = folder_of(words);
     let mut shelf = FolderShelf::new(rt, String::from_str(alloc, folder)?);
     let mut air = RealSource::new(rt, path(alloc, folder, "air.ts")?);
-    let mut flash = FileFlash::new(rt, path(alloc, folder, "flash.bin")?);
-    let mut made = RealSink::new(rt, path(alloc, folder, made_file(words).as_str())?);
+    let mut flash = flash_of(rt, path(alloc, folder, "flash.bin")?, command);
+    let made_path = path(alloc, folder, made_file(words).as_str())?;
+    let mut made = MadeFile::new(RealSink::new(rt, made_path.clone()?));
     let mut out = StdSink::new(rt);
-    Ok(run(
+    let status = run(
         alloc, words, &mut shelf, &mut air, &mut flash, &mut made, &mut out,
-    ))
+    );
+    if matches!(command, Some(Command::Blank(_))) && made.is_cut_short() {
+        empty(rt, &made_path);
+    }
+    Ok(status)
+}
+
+/// Empties a file, which is then no flash. What is no file, as a device, stays as it is.
+fn empty(rt: &impl Files, path: &str) {
+    let is_file = fs::metadata(rt, path).is_ok_and(|found| found.is_file());
+    if is_file {
+        // Where that fails too, the status alone tells.
+        let _ = File::create(rt, path);
+    }
+}
+
+/// The folder of the words. An empty word is the current folder.
+fn folder_of(words: &[String]) -> &str {
+    match words.first() {
+        Some(folder) if !folder.is_empty() => folder.as_str(),
+        _ => ".",
+    }
+}
+
+/// The flash of a command. `boot` opens it for reading alone, and a command that does not use it has one without a file.
+fn flash_of<R: Files + AllocGlobal>(
+    rt: &R,
+    path: String,
+    command: Option<Command>,
+) -> FileFlash<'_, R> {
+    match command {
+        Some(Command::Format(_) | Command::Replay) => FileFlash::new(rt, path),
+        Some(Command::Boot) => FileFlash::read_only(rt, path),
+        _ => FileFlash::read_only(rt, String::new(rt.alloc())),
+    }
 }
 
 fn path(alloc: Global, folder: &str, name: &str) -> Result<String, AllocError> {

@@ -1,7 +1,8 @@
 -- The numbers and names of the levels.
 use Rattle.std.specs.Prelude.{ℕ, List, codes}
 use Rattle.ssu_answer.specs.declared.level.Level.{Level}
-use Rattle.ssu_answer.specs.declared.level.Level.TheVariants.{Linkage, Program, Component, Notice, Window, Group, Modules}
+use Rattle.ssu_answer.specs.declared.level.Level.TheVariants.{Linkage, Program, Component, Notice, Window, Group}
+use Rattle.ssu_answer.specs.declared.level.Level.TheVariants.{Modules}
 
 abbrev pub number_of : Level → ℕ
 number_of Linkage = 1

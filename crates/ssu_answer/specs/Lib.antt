@@ -1,2 +1,3 @@
+pub mod BankLen
 pub mod Levels
 pub mod Software

@@ -1,6 +1,6 @@
 //! Why a broadcast is not built.
 
-use file_names::FileName;
+use ssu_io::FileName;
 
 /// Why the sections of a plan are not made.
 #[derive(Clone, Copy, Debug, PartialEq, Eq)]

@@ -3,8 +3,9 @@ use Rattle.std.proofs.Common.{◌≡◌, ℕ, ◌+◌, ◌*◌, ◌≤◌, true,
 use Rattle.std.specs.List.{flat_map, AllByRecursion}
 use Rattle.std.proofs.lemmas.List.{length-map}
 use Rattle.std.proofs.lemmas.Bool.{eqb-true}
-use Rattle.wire.specs.Number.{bytes_of, number1_byte, number2_put, number3_put}
-use Rattle.wire.specs.Items.{each_put}
+use Rattle.wire.specs.Number.{bytes_of}
+use Rattle.wire.proofs.Numbers.{number1_byte, number2_put, number3_put}
+use Rattle.wire.proofs.ItemLaws.{each_put}
 use Rattle.ssu_compat.specs.Compat.{inside_entry, entry, entries, compat}
 use Rattle.ssu_compat.specs.Written.{entry_of, entry_bytes, Fits, spelling}
 use Rattle.ssu_compat.specs.declared.plain.Plain.{Plain}

@@ -1,7 +1,9 @@
 -- The reader of the format reads what is spelled so, and nothing else.
-use Rattle.wire.specs.Laws.{IsFront, IsWhole, pair_exact, sized_exact, then_exact, reads_exact, whole_reads_exact, rest_exact, kept_exact, exactly_exact, or_none_exact}
-use Rattle.wire.specs.Number.{number1, number2, number3}
-use Rattle.ssu_compat.specs.Compat.{sub_descriptor, inside_entry, entry_fields, entry, counted_entries, entries, compat}
+use Rattle.wire.specs.Exact.{IsFront, IsWhole}
+use Rattle.wire.proofs.Laws.{pair_exact, sized_exact, then_exact, reads_exact}
+use Rattle.wire.proofs.Laws.{rest_exact, kept_exact, exactly_exact}
+use Rattle.wire.proofs.Numbers.{number1, number2, number3}
+use Rattle.ssu_compat.specs.Compat.{sub_descriptor, inside_entry, entry_fields, entry}
 
 pub sub_exact : IsFront sub_descriptor
 sub_exact = pair_exact number1 (sized_exact number1 rest_exact)
@@ -14,11 +16,3 @@ inside_exact =
 pub entry_exact : IsFront entry
 unfolding entry
 entry_exact = reads_exact entry_fields (pair_exact number1 (sized_exact number1 inside_exact))
-
-pub entries_exact : IsWhole entries
-unfolding entries
-entries_exact = whole_reads_exact counted_entries (then_exact number2 (λ count. exactly_exact count entry_exact))
-
-pub compat_exact : IsFront compat
-unfolding compat
-compat_exact = sized_exact number2 (or_none_exact entries_exact)

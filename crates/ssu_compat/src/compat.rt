@@ -30,7 +30,8 @@ impl<'a> Model for Compat<'a> {
     ghost view = { λ s. items_of entry s.entries };
 }
 
-/// The descriptor at the front of the bytes, and the bytes behind it.
+/// The descriptor at the front of the bytes, and the bytes behind it. `None` comes exactly where no descriptor stands
+/// there.
 #[tactic(auto, unfolding(crate::specs::Compat::compat))]
 pub fn compat_at<'a>(bytes: &'a [u8]) -> Option<(Compat<'a>, &'a [u8])>
     ensures { Reads (λ x. (x.0, x.1.now)) result (format.at bytes.now) }
@@ -87,7 +88,8 @@ impl<'a> Compat<'a> {
         false
     }
 
-    /// The software of the first entry of kind 2, specifier 1 and this OUI.
+    /// The software of the first entry of kind 2, specifier 1 and this OUI. `None` comes exactly where there is no
+    /// such entry.
     #[tactic(auto, unfolding(crate::specs::Match::offered))]
     pub fn offered(&self, oui: Oui) -> Option<SwId>
         ensures { result ≡ offered_for oui self.now }

@@ -9,8 +9,6 @@ mod me;
 mod oui;
 mod plain;
 mod rule;
-#[cfg(test)]
-mod tests;
 
 pub use compat::{Compat, compat_at};
 pub use ends::compat_ends;

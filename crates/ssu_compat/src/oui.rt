@@ -27,7 +27,7 @@ impl Model for Oui {
 }
 
 impl Oui {
-    /// `None` comes exactly from 16,777,216 up.
+    /// The OUI of this number. `None` comes exactly from 16,777,216 up.
     pub fn new(n: u32) -> Option<Oui>
         ensures { SomeIff result (n < 2 ^ 24) n }
     {
@@ -38,6 +38,7 @@ impl Oui {
         }
     }
 
+    /// Its number, below 16,777,216.
     pub fn get(self) -> u32
         ensures number { result ≡ self }
         ensures in_range { result < 2 ^ 24 }
@@ -45,7 +46,8 @@ impl Oui {
         self.number
     }
 
-    /// The OUI at the front of the bytes, and the bytes behind it.
+    /// The OUI at the front of the bytes, and the bytes behind it. `None` comes exactly where there are fewer than
+    /// three bytes.
     pub fn at(bytes: &[u8]) -> Option<(Oui, &[u8])>
         ensures { Reads (λ x. (x.0, x.1.now)) result ((number 3).at bytes.now) }
     {

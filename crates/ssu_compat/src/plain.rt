@@ -18,7 +18,7 @@ pub struct Plain {
     pub version: u16,
 }
 
-/// The descriptor of these entries.
+/// The descriptor of these entries, 256 at most. `NoMemory` is the one refusal.
 pub fn write(alloc: Global, entries: &[Plain]) -> Result<Vec<u8>, NoMemory>
     requires { length entries.now ≤ 256 }
     ensures written { IfOk result (λ v. v.items ≡ spelling entries.now) }

@@ -66,7 +66,7 @@ fn is_bit_set(bits: &[u8], number: u32) -> bool
 }
 
 impl BlockMap {
-    /// A map with room for so many places, and with none.
+    /// A map with room for `most` places, and with none. `NoMemory` is the one refusal.
     #[tactic(auto, using(crate::proofs::MapLaws::missing_none))]
     pub fn new(alloc: Global, most: u32) -> Result<BlockMap, NoMemory>
         ensures room { IfOk result (λ m. m.most ≡ most) }

@@ -83,7 +83,12 @@ fn lay(dii: &Dii<'_>, block_size: u16) -> Laid
 }
 
 impl GroupPlan {
-    /// The plan of the group whose DII this is, for a bank of so many bytes. It takes no memory.
+    /// The plan of the group whose DII this is, for a bank of `bank_len` bytes. It takes no memory.
+    ///
+    /// Answers exactly the first of these that holds: `Compressed` where a module has a compressed_module descriptor,
+    /// `NoBlockSize` where the block size is 0 or above 4,066 bytes, `TooManyBlocks` where a module has more than
+    /// 65,536 blocks, `TwiceModule` where a module's id stood earlier, `TooLong` where the modules have more bytes
+    /// than the bank, and `Empty` where they have none.
     pub fn of(dii: &Dii<'_>, bank_len: u32) -> Result<GroupPlan, Unusable>
         ensures usable { IfOk result (λ p. (refusal dii.now bank_len ≡ None) × IsPlanOf dii.now p) }
         ensures fits { IfOk result (λ p. p.total ≤ bank_len) }

@@ -9,8 +9,6 @@ mod layout;
 mod module_passes;
 mod module_plan;
 mod places;
-#[cfg(test)]
-mod tests;
 mod unusable;
 
 pub use block_map::BlockMap;

@@ -1,6 +1,11 @@
 pub mod Bytes
+pub mod Causes
 pub mod Errors
 pub mod Faults
+pub mod FileName
+pub mod Files
+pub mod Seen
+pub mod MemShelf
 pub mod MemSink
 pub mod MemSource
 pub mod SinkBuffer

@@ -1,4 +1,4 @@
-//! Counts of calls and faults, and the calls that are made to fail.
+//! Counts of calls, faults and absences, and the calls that are made to fail.
 ghost use Rattle.std.specs.Prelude.{◌≡◌, ◌↔◌, IsTrue, Contains};
 ghost use Rattle.ssu_io.specs.Faults.{raised};
 

@@ -1,25 +1,21 @@
 //! A file as a source.
-ghost use Rattle.std.specs.Prelude.{◌≡◌, ◌≤◌, None, length, IfOk, is_err, if◌then◌else◌};
-ghost use Rattle.ssu_io.specs.Faults.{raised};
+ghost use Rattle.std.specs.Prelude.{◌≡◌, ◌≤◌, None, length, IfOk};
 
+use crate::ahead::Ahead;
 use crate::faults::one_more;
 use crate::{Failed, Source};
-use std::alloc::Global;
 use std::fs::File;
 use std::io;
-use std::io::{BufReader, Read};
 use std::rt::Files;
 
-/// How many bytes are read from the file at once.
-const BUFFER: usize = 1 << 16;
-
-/// A source over a file, which is opened at the first call and read through a buffer of 64 KiB.
-/// It does not tell its bytes. Each error of the file, and want of memory for the buffer, is a fault.
+/// A source over a file, which is opened at the first call and read 16 KiB at a time. It takes no memory beside its
+/// own 16 KiB, and does not tell its bytes. Each error of the file is a fault.
 #[derive(Drop)]
 pub struct RealSource<'a, R: Files> {
     rt: &'a R,
     path: String,
-    reader: Option<BufReader<R::File, Global>>,
+    file: Option<R::File>,
+    ahead: Ahead,
     faults: u64,
 }
 
@@ -31,7 +27,8 @@ impl<'a, R: Files> RealSource<'a, R> {
         RealSource {
             rt,
             path,
-            reader: None,
+            file: None,
+            ahead: Ahead::new(),
             faults: 0,
         }
     }
@@ -43,7 +40,7 @@ impl<R: Files> Source for RealSource<'_, R> {
     ghost faults = { λ s. s.faults };
 
     fn take(&mut self, buf: &mut [u8]) -> Result<usize, Failed> {
-        match read_some(self.rt, &self.path, &mut self.reader, buf) {
+        match read_some(self.rt, &self.path, &mut self.file, &mut self.ahead, buf) {
             Ok(n) => Ok(n),
             Err(_) => {
                 self.faults = one_more(self.faults);
@@ -53,20 +50,34 @@ impl<R: Files> Source for RealSource<'_, R> {
     }
 }
 
-/// Reads from the file, which it opens where that is still to be done.
+/// Takes what was read ahead. Where nothing waits, it reads first.
 fn read_some<R: Files>(
     rt: &R,
     path: &String,
-    reader: &mut Option<BufReader<R::File, Global>>,
+    file: &mut Option<R::File>,
+    ahead: &mut Ahead,
     buf: &mut [u8],
 ) -> io::Result<usize>
     ensures { IfOk result (λ n. n ≤ length buf.new) }
 {
-    let mut opened = match reader.take() {
+    if ahead.is_empty() {
+        read_ahead(rt, path, file, ahead)?;
+    }
+    Ok(ahead.take(buf))
+}
+
+/// Reads from the file, which it opens where that is still to be done.
+fn read_ahead<R: Files>(
+    rt: &R,
+    path: &String,
+    file: &mut Option<R::File>,
+    ahead: &mut Ahead,
+) -> io::Result<()> {
+    let mut opened = match file.take() {
         Some(opened) => opened,
-        None => BufReader::with_capacity(*path.allocator(), BUFFER, File::open(rt, path)?)?,
+        None => File::open(rt, path)?,
     };
-    let taken = opened.read(buf);
-    *reader = Some(opened);
-    taken
+    let filled = ahead.fill(&mut opened);
+    *file = Some(opened);
+    filled
 }

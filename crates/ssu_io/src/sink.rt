@@ -13,7 +13,8 @@ pub trait Sink {
     /// How often a call failed: a u64 that never falls and stands still at its greatest value.
     ghost faults: { Self → ℕ };
 
-    /// Appends the whole piece.
+    /// Appends the whole piece. `Failed` comes only where the count of faults rose; a prefix of the piece was
+    /// appended then.
     fn put(&mut self, piece: &[u8]) -> Result<(), Failed>
         ensures whole { OnOk result (Gains (contents self.old) (contents self.new) piece.now) }
         // After a fault a prefix of the piece was appended.

@@ -28,7 +28,7 @@ impl Model for SinkBuffer {
 }
 
 impl SinkBuffer {
-    /// Takes memory for 64 KiB. Nothing waits yet.
+    /// Takes memory for 64 KiB. Nothing waits yet. `NoMemory` is the one refusal.
     pub fn new(alloc: Global) -> Result<SinkBuffer, NoMemory>
         ensures { IfOk result (λ buffer. buffer ≡ []) }
     {
@@ -37,10 +37,14 @@ impl SinkBuffer {
         })
     }
 
-    /// Puts the piece behind what waits. Where there is no room for it, what waits goes into the sink.
+    /// Puts the piece behind what waits. Where there is no room for it, what waits goes into the sink, and a piece of
+    /// more than 64 KiB after it. `Failed` comes only where the sink failed and its count of faults rose; nothing
+    /// waits then.
     pub fn put<W: Sink>(&mut self, sink: &mut W, piece: &[u8]) -> Result<(), Failed>
         ensures ok { OnOk result (MovesOn (W.contents sink.old) (W.contents sink.new) self.old piece.now self.new) }
         ensures failed { OnErr result (GainsPrefix (W.contents sink.old) (W.contents sink.new) (self.old ++ piece.now)) }
+        // After a fault nothing waits: what did not go into the sink is lost.
+        ensures none_waits { OnErr result (self.new ≡ []) }
         ensures cause { HasCause (W.faults sink.old) (W.faults sink.new) result }
     {
         if piece.len() <= ROOM - self.bytes.len() {
@@ -55,7 +59,8 @@ impl SinkBuffer {
         Ok(())
     }
 
-    /// Puts all that waits into the sink.
+    /// Puts all that waits into the sink. `Failed` comes only where the sink failed and its count of faults rose.
+    /// Nothing waits then, whatever it answers.
     pub fn flush<W: Sink>(&mut self, sink: &mut W) -> Result<(), Failed>
         ensures ok { OnOk result (Gains (W.contents sink.old) (W.contents sink.new) self.old) }
         ensures failed { OnErr result (GainsPrefix (W.contents sink.old) (W.contents sink.new) self.old) }

@@ -13,8 +13,8 @@ pub trait Source {
     /// How often a call failed: a u64 that never falls and stands still at its greatest value.
     ghost faults: { Self → ℕ };
 
-    /// Puts the next bytes, at least one and no more than there is room for, in front of `buf`, and
-    /// answers how many they are, or 0 at the end.
+    /// Puts the next bytes, at least one and no more than there is room for, in front of `buf`, and answers how many
+    /// they are, or 0 at the end. `Failed` comes only where the count of faults rose; nothing was taken then.
     fn take(&mut self, buf: &mut [u8]) -> Result<usize, Failed>
         requires { 0 < length buf.old }
         ensures within { IfOk result (λ n. n ≤ length buf.new) }

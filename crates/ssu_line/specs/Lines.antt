@@ -3,6 +3,8 @@ use Rattle.std.specs.Prelude.{ℕ, List, ◌++◌, codes, decimal}
 use Rattle.ssu_answer.specs.Levels.{name_of, number_of}
 use Rattle.ssu_answer.specs.declared.chosen.Chosen.{Chosen}
 use Rattle.ssu_answer.specs.declared.level.Level.{Level}
+use Rattle.ssu_answer.specs.declared.verdict.Verdict.{Verdict}
+use Rattle.ssu_answer.specs.declared.verdict.Verdict.TheVariants.{Installed, Nothing, Incomplete, BadModule, Unsettled}
 use Rattle.ssu_compat.specs.declared.rule.SwId.{SwId}
 use Rattle.ssu_line.specs.Digits.{hex_word}
 
@@ -39,6 +41,14 @@ bad_module_line id want found =
 -- unsettled
 abbrev pub unsettled_line : List ℕ
 unsettled_line = codes "unsettled\n"
+
+-- the line of a verdict
+abbrev pub verdict_line : Verdict → List ℕ
+verdict_line (Installed chosen) = installed_line chosen
+verdict_line (Nothing level) = nothing_line level
+verdict_line (Incomplete chosen missing) = incomplete_line chosen.group missing
+verdict_line (BadModule id want found) = bad_module_line id want found
+verdict_line Unsettled = unsettled_line
 
 -- sections N packets P
 abbrev pub built_line : ℕ → ℕ → List ℕ

@@ -1,9 +1,9 @@
 -- The line of a section that was heard. It ends with a line feed.
 use Rattle.std.specs.Prelude.{ℕ, List, [], ◌++◌, codes, decimal, Option, None, Some}
 use Rattle.ssu_line.specs.Digits.{hex_byte, hex_half, right}
-use Rattle.ssu_line.specs.SectionKinds.{time_of, word_of}
-use Rattle.ssu_line.specs.TimeText.{time_text}
-use Rattle.ssu_line.specs.declared.section_kind.SectionKind.{SectionKind}
+use Rattle.section_kind.specs.Words.{time_of, word_of}
+use Rattle.ssu_time.specs.TimeText.{time_text}
+use Rattle.section_kind.specs.declared.section_kinds.SectionKind.{SectionKind}
 use Rattle.ssu_time.specs.declared.utc_time.Utc.{Utc}
 
 -- the word of a kind, and - for none

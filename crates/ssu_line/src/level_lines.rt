@@ -1,6 +1,7 @@
 //! The seven levels between a transport stream and the modules of an update, and what was found at each.
 ghost use Rattle.std.specs.Prelude.{◌≡◌, ◌≤◌, length};
-ghost use Rattle.ssu_line.specs.LevelLines.{services_line, program_line, component_line, notices_line, carousel_line, groups_line, modules_line, counted_line, none_line};
+ghost use Rattle.ssu_line.specs.LevelLines.{services_line, program_line, component_line, notices_line, carousel_line};
+ghost use Rattle.ssu_line.specs.LevelLines.{groups_line, modules_line, counted_line, none_line};
 
 use crate::writing::{Line, put_number};
 use ts_packet::Pid;

@@ -3,17 +3,14 @@
 
 mod level_lines;
 mod result_lines;
-mod section_kind;
 mod section_line;
-#[cfg(test)]
-mod tests;
 mod time_text;
 mod writing;
 
 pub use level_lines::{carousel, component, groups, modules, notices, program, services};
 pub use result_lines::{
     bad_module, blank, booted, built, formatted, incomplete, installed, loaded, nothing, unsettled,
+    verdict,
 };
-pub use section_kind::SectionKind;
 pub use section_line::shown;
 pub use writing::Line;

@@ -1,10 +1,12 @@
 //! What a command did.
 ghost use Rattle.std.specs.Prelude.{◌≡◌, ◌+◌, ◌≤◌, ◌++◌};
 ghost use Rattle.arrayvec.specs.ArrayString.{array_string_len};
-ghost use Rattle.ssu_line.specs.Lines.{loaded_line, installed_line, nothing_line, incomplete_line, bad_module_line, unsettled_line, built_line, blank_line, formatted_line, booted_line, software_text};
+ghost use Rattle.ssu_line.specs.Lines.{loaded_line, installed_line, nothing_line, incomplete_line, bad_module_line};
+ghost use Rattle.ssu_line.specs.Lines.{unsettled_line, built_line, blank_line, formatted_line, booted_line};
+ghost use Rattle.ssu_line.specs.Lines.{software_text, verdict_line};
 
 use crate::writing::{Line, put_count, put_hex_word, put_number};
-use ssu_answer::{Chosen, Level};
+use ssu_answer::{Chosen, Level, Verdict};
 use ssu_compat::SwId;
 
 /// `loaded group G bytes L`: the id of the group and the length of its image.
@@ -83,6 +85,19 @@ pub fn unsettled() -> Line
     let mut line = Line::new();
     line.push_str("unsettled\n");
     line
+}
+
+/// The line of a verdict.
+pub fn verdict(verdict: Verdict) -> Line
+    ensures { result.bytes ≡ verdict_line verdict }
+{
+    match verdict {
+        Verdict::Installed(chosen) => installed(chosen),
+        Verdict::Nothing(level) => nothing(level),
+        Verdict::Incomplete(chosen, missing) => incomplete(chosen.group, missing),
+        Verdict::BadModule(id, want, found) => bad_module(id, want, found),
+        Verdict::Unsettled => unsettled(),
+    }
 }
 
 /// `sections N packets P`: how many sections a plan makes, and how many packets were written.

@@ -2,11 +2,11 @@
 ghost use Rattle.std.specs.Prelude.{◌≡◌, ◌+◌, ◌≤◌, ◌++◌, Some};
 ghost use Rattle.arrayvec.specs.ArrayString.{array_string_len};
 ghost use Rattle.ssu_line.specs.SectionLine.{kind_time, kind_word, shown_line, time_part};
-ghost use Rattle.ssu_line.specs.SectionKinds.{time_of, word_of};
+ghost use Rattle.section_kind.specs.Words.{time_of, word_of};
 
-use crate::section_kind::SectionKind;
 use crate::time_text::put_time;
 use crate::writing::{Line, put_hex_byte, put_right};
+use section_kind::SectionKind;
 use ssu_time::Utc;
 use ts_packet::Pid;
 

@@ -2,7 +2,7 @@
 ghost use Rattle.std.specs.Prelude.{◌≡◌, ◌+◌, ◌≤◌, ◌++◌, ◌<◌, length};
 ghost use Rattle.std.specs.List.{All};
 ghost use Rattle.arrayvec.specs.ArrayString.{array_string_len};
-ghost use Rattle.ssu_line.specs.TimeText.{time_text};
+ghost use Rattle.ssu_time.specs.TimeText.{time_text};
 
 use crate::writing::{Line, put_character};
 use ssu_time::Utc;

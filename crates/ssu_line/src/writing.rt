@@ -1,7 +1,8 @@
 //! Pieces of a line.
 ghost use Rattle.std.specs.Prelude.{◌≡◌, ◌+◌, ◌<◌, ◌≤◌, ◌++◌, [], ◌∷◌, length, decimal, replicate};
 ghost use Rattle.arrayvec.specs.ArrayString.{array_string_len};
-ghost use Rattle.ssu_line.specs.Digits.{hex_digit as hex_digit_of, hex_byte as hex_byte_of, hex_word as hex_word_of, right};
+ghost use Rattle.ssu_line.specs.Digits.{hex_digit as hex_digit_of, hex_byte as hex_byte_of, hex_word as hex_word_of};
+ghost use Rattle.ssu_line.specs.Digits.{right};
 
 use arrayvec::ArrayString;
 use itoa::Buffer;

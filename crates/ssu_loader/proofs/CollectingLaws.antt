@@ -1,15 +1,16 @@
 -- What the collector stands for, with one section more.
-use Rattle.std.proofs.Common.{◌≡◌, inl, inr, ⊎_elim, ℕ, ◌<◌, ◌≤◌, List, ◌∷◌, Option, Some, None, refl, sym, ap, subst, ◌∙◌, arith}
+use Rattle.std.proofs.Common.{◌≡◌, inl, inr, ⊎_elim, ℕ, ◌<◌, ◌≤◌, List, [], ◌∷◌, Option, Some, None, refl, sym, ap, subst, ◌∙◌, arith}
 use Rattle.std.specs.Prelude.{IsSome, IfNone, IfSome, is_some}
 use Rattle.flash_dev.specs.declared.device.Flash.{Ghosts as FlashGhosts}
-use Rattle.flash_bank.specs.Bank.{current_of, next_record}
-use Rattle.flash_bank.specs.Layout.{Geometry, bank_len}
+use Rattle.flash_bank.specs.Bank.{current_of, geometry_of}
+use Rattle.flash_bank.specs.Leaving.{Installs, KeepsBoot}
+use Rattle.flash_bank.specs.Record.{next_record}
 use Rattle.flash_bank.specs.declared.bank.Bank.{Bank}
 use Rattle.flash_bank.specs.declared.record.Record.{Record}
 use Rattle.flash_stage.specs.declared.stage.Stage.{Ghosts as StageGhosts}
-use Rattle.flash_stage.specs.Leaving.{Installs, SameBank, StageLeaves}
+use Rattle.flash_stage.specs.Leaving.{SameBank}
 use Rattle.flash_stage.specs.Outline.{outline_of}
-use Rattle.flash_stage.proofs.LeavingLaws.{bank_itself}
+use Rattle.flash_stage.proofs.LeavingLaws.{bank_itself, len_same}
 use Rattle.flash_stage.proofs.TextLaws.{one_outline}
 use Rattle.ts_section.specs.Events.{Heard}
 use Rattle.ssu_answer.specs.declared.chosen.Chosen.{Chosen}
@@ -31,10 +32,10 @@ use Rattle.ssu_loader.specs.declared.verdict.Verdict.TheVariants.{Installed, Not
 use Rattle.ssu_loader.specs.Collecting.{Collects, Gathers, HasFilled, HoldsFilling, IsAhead, Works}
 use Rattle.ssu_loader.specs.Decisions.{IsOpen, IsStanding, Whole, Wrong, chosen_of}
 use Rattle.ssu_loader.specs.Leaving.{Ends, GoesOn, SectionsLeave}
-use Rattle.ssu_loader.specs.Settling.{IsOfGroup, Settles, SettlingLeaves}
-use Rattle.ssu_loader.specs.Verdicts.{IsSeen, IsSettled}
+use Rattle.ssu_loader.specs.Settling.{Settles, SettlingLeaves}
+use Rattle.ssu_loader.specs.Verdicts.{IsFilled, IsOn, IsSeen}
 use Rattle.ssu_loader.proofs.ChoiceLaws.{choice_back, choice_stands, no_choice}
-use Rattle.ssu_loader.proofs.DecisionLaws.{filled_settles, missing_decides, none_decides, not_too_many, one_choice, open_more, reached_now, some_missing}
+use Rattle.ssu_loader.proofs.DecisionLaws.{missing_decides, none_decides, not_too_many, one_choice, open_more, reached_now, some_missing}
 use Rattle.ssu_group.proofs.SamePlans.{IsSamePlan, same_filling}
 
 -- ---- a decision
@@ -47,14 +48,10 @@ settled_ends me item heard choice bank x y (Installed chosen) undecided is settl
     record {
       image = installs.image;
       reached = reached_now me item heard (Whole chosen installs.image) undecided (record { choice = choice; standing = is; is = settles.0; whole = installs.whole });
-      installs = subst (λ (c : Chosen). Installs bank (next_record bank c.bytes c.software c.group) installs.image x y) (sym settles.0) installs.installs;
+      installs = subst (λ (c : Chosen). Installs (geometry_of bank) (next_record (current_of bank) c.bytes c.software c.group) installs.image x y) (sym settles.0) installs.installs;
     }
 settled_ends me item heard choice bank x y (BadModule id want found) undecided is settles =
-    let wrong = settles.0 in (
-      reached_now me item heard (Wrong id want found) undecided
-          (record { choice = choice; standing = is; filled = wrong.filled; module_plan = wrong.module_plan; first = wrong.first; own_id = wrong.own_id; wanted = wrong.wanted; has = wrong.has }),
-      settles.1,
-    )
+    (reached_now me item heard (Wrong id want found) undecided (record { choice = choice; standing = is; wrong = settles.0 }), settles.1)
 settled_ends me item heard choice bank x y (Nothing level) undecided is settles = absurd settles
 settled_ends me item heard choice bank x y (Incomplete chosen count) undecided is settles = absurd settles
 settled_ends me item heard choice bank x y Unsettled undecided is settles = absurd settles
@@ -126,10 +123,10 @@ module _ {S F : Type 0} (s : StageGhosts S) (f : FlashGhosts F) where
   choice_collects me item heard old new flash flash' choice stands is g bank most counted few works undecided filled holds = record {
     stands = stands;
     gathers = record {
-      len = g.len ∙ ap (λ (x : Geometry). bank_len x) (sym bank.geometry);
+      len = g.len ∙ sym (len_same old.bank new.bank bank);
       runs = g.runs ∙ ap (λ (r : Record). r.software) (sym bank.current);
       lent = works.lent;
-      made_for = most ∙ g.made_for ∙ ap (λ (x : Geometry). bank_len x) (sym bank.geometry);
+      made_for = most ∙ g.made_for ∙ sym (len_same old.bank new.bank bank);
       next_fits = works.next_fits;
       knows = record {
         undecided = undecided;
@@ -198,21 +195,26 @@ module _ {S F : Type 0} (s : StageGhosts S) (f : FlashGhosts F) (me : Receiver) 
     taken_filled = ahead.gathers.knows.filled choice was
 
     -- all places are filled by the newest section
-    settled : missing_places choice.plan (item.section ∷ window me heard) ≡ 0 → IsSettled me (item ∷ heard)
-    settled filled =
-        ⊎_elim (λ whole. inl (whole.0, whole.1, reached_now me item heard (Whole whole.0 whole.1) ahead.gathers.knows.undecided whole.2))
-        (λ wrong. inr (wrong.0, wrong.1, wrong.2, reached_now me item heard (Wrong wrong.0 wrong.1 wrong.2) ahead.gathers.knows.undecided wrong.3))
-        (filled_settles me (item ∷ heard) choice stands_now (ap (missing_places choice.plan) joins ∙ filled))
+    filled_now : missing_places choice.plan (item.section ∷ window me heard) ≡ 0 → IsFilled me (item ∷ heard) choice
+    filled_now filled = record {
+      later = [];
+      item = item;
+      earlier = heard;
+      parts = refl;
+      undecided = ahead.gathers.knows.undecided;
+      standing = stands_now;
+      filled = ap (missing_places choice.plan) joins ∙ filled;
+    }
 
     -- what is seen of it
     pub taken_seen : (stage' : S) (answer : Option Verdict)
         → IfNone answer (HasFilled s choice.plan (item.section ∷ window me heard) stage' × (1 ≤ missing_places choice.plan (item.section ∷ window me heard)))
-        → IfSome answer (λ verdict. IsOfGroup verdict × (missing_places choice.plan (item.section ∷ window me heard) ≡ 0)) → IsSeen me (item ∷ heard) answer
+        → IfSome answer (λ verdict. IsOn choice verdict × (missing_places choice.plan (item.section ∷ window me heard) ≡ 0)) → IsSeen me (item ∷ heard) answer
     taken_seen stage' None filled whole =
         open_more me item heard ahead.gathers.knows.undecided
         (missing_decides me (item ∷ heard) choice is (subst (λ (w : List (List ℕ)). 1 ≤ missing_places choice.plan w) (sym joins) filled.1) (not_too_many me item heard not_chosen))
-    taken_seen stage' (Some (Installed chosen)) filled whole = settled whole.1
-    taken_seen stage' (Some (BadModule id want found)) filled whole = settled whole.1
+    taken_seen stage' (Some (Installed chosen)) filled whole = (choice, (filled_now whole.1, whole.0))
+    taken_seen stage' (Some (BadModule id want found)) filled whole = (choice, (filled_now whole.1, whole.0))
     taken_seen stage' (Some (Nothing level)) filled whole = absurd whole.0
     taken_seen stage' (Some (Incomplete chosen n)) filled whole = absurd whole.0
     taken_seen stage' (Some Unsettled) filled whole = absurd whole.0
@@ -222,7 +224,7 @@ module _ {S F : Type 0} (s : StageGhosts S) (f : FlashGhosts F) (me : Receiver) 
       taken_holds = ahead.gathers.told tells choice was
 
       -- what is answered
-      pub taken_goes_on : (x z : List ℕ) (answer : Option Verdict) → IfNone answer (StageLeaves c.bank x z)
+      pub taken_goes_on : (x z : List ℕ) (answer : Option Verdict) → IfNone answer (KeepsBoot (geometry_of c.bank) x z)
           → IfSome answer (Settles choice (item.section ∷ window me heard) c.bank x z) → GoesOn me (item ∷ heard) c.bank x z answer
       taken_goes_on x z None leaves settles = leaves
       taken_goes_on x z (Some v) leaves settles =

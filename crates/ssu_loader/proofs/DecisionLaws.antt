@@ -41,6 +41,11 @@ pub reached_now : (me : Receiver) (item : Heard) (heard : List Heard) (d : Decis
 unfolding Reaches
 reached_now me item heard d undecided decides = inr (undecided, decides)
 
+-- what is decided first, and was not before
+pub decided_now : (me : Receiver) (item : Heard) (heard : List Heard) (d : Decision) → IsOpen me heard → Reaches me (item ∷ heard) d → Decides me (item ∷ heard) d
+unfolding Reaches
+decided_now me item heard d undecided = ⊎_elim (λ before. absurd (undecided d before)) (λ now. now.1)
+
 -- nothing is decided yet
 pub open_more : (me : Receiver) (item : Heard) (heard : List Heard) → IsOpen me heard → ((d : Decision) → Decides me (item ∷ heard) d → ⊥) → IsOpen me (item ∷ heard)
 unfolding Reaches
@@ -98,7 +103,7 @@ missing_decides me heard choice chosen some few (Whole c image) is =
     absurd (omega (arith, same, some, is.whole.filled))
 missing_decides me heard choice chosen some few (Wrong id want found) is =
     let same = same_missing choice.plan is.choice.plan (window me heard) (one_choice me heard choice is.choice chosen is.standing.chosen).plan in
-    absurd (omega (arith, same, some, is.filled))
+    absurd (omega (arith, same, some, is.wrong.filled))
 missing_decides me heard choice chosen some few TooMany is = absurd cc
 
 -- ---- all places are filled
@@ -143,7 +148,11 @@ filled_settles me heard choice is filled = by_wrong (wrong_module choice.plan.mo
           m.id,
           crc.0,
           crc_of (module_bytes (carried_image choice.plan (window me heard)) m),
-          record { choice = choice; standing = is; filled = filled; module_plan = m; first = first; own_id = refl; wanted = crc.1; has = refl },
+          record {
+            choice = choice;
+            standing = is;
+            wrong = record { filled = filled; module_plan = m; first = first; own_id = refl; wanted = crc.1; has = refl };
+          },
         )
 
 -- so something is decided

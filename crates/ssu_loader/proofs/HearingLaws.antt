@@ -1,16 +1,20 @@
 -- The sections of one packet, one after the other.
-use Rattle.std.proofs.Common.{◌≡◌, inl, inr, ⊎_elim, ℕ, zero, suc, ◌+◌, ◌-◌, ◌≤◌, List, [], ◌∷◌, ◌++◌, map, reverse, take, drop, length, Option, Some, None, refl, sym, ap, subst, ◌∙◌, arith, append_assoc}
+use Rattle.std.proofs.Common.{◌≡◌, inl, inr, ⊎_elim, ℕ, zero, suc, ◌+◌, ◌≤◌, List, [], ◌∷◌, ◌++◌, map, reverse, take, drop, length, Option, Some, None, refl, sym, ap, subst, ◌∙◌, arith, append_assoc}
 use Rattle.std.proofs.lemmas.List.{map-append, reverse-append, take-append-drop}
 use Rattle.std.specs.List.{slice_get}
+use Rattle.std.specs.Prelude.{IsTrue}
 use Rattle.flash_dev.specs.declared.device.Flash.{Ghosts as FlashGhosts}
 use Rattle.flash_dev.specs.Moments.{LeavesOnly}
 use Rattle.flash_dev.proofs.Moments.{joined, weaker}
 use Rattle.flash_stage.specs.declared.stage.Stage.{Ghosts as StageGhosts}
-use Rattle.flash_bank.specs.Bank.{Fits, IsLent, next_record}
+use Rattle.flash_bank.specs.Bank.{Fits, IsLent, current_of, geometry_of}
+use Rattle.flash_bank.specs.Leaving.{Installs, KeepsBoot}
+use Rattle.flash_bank.specs.Record.{next_record}
+use Rattle.flash_bank.proofs.LeavingLemmas.{keeps_boot_joined, keeps_boot_same}
 use Rattle.flash_bank.specs.declared.bank.Bank.{Bank}
 use Rattle.flash_bank.specs.declared.record.Record.{Record}
-use Rattle.flash_stage.specs.Leaving.{Installs, SameBank, StageLeaves}
-use Rattle.flash_stage.proofs.LeavingLaws.{bank_itself, banks_joined, installs_joined, installs_moved, leaves_joined, leaves_moved, leaves_same}
+use Rattle.flash_stage.specs.Leaving.{SameBank}
+use Rattle.flash_stage.proofs.LeavingLaws.{bank_itself, banks_joined}
 use Rattle.ts_section.specs.Events.{Heard}
 use Rattle.ssu_answer.specs.declared.chosen.Chosen.{Chosen}
 use Rattle.route_tables.specs.Next.{heard_on}
@@ -19,15 +23,17 @@ use Rattle.ssu_route.specs.Queries.{after_all}
 use Rattle.ssu_loader.specs.declared.verdict.Verdict.{Verdict}
 use Rattle.ssu_loader.specs.declared.verdict.Verdict.TheVariants.{Installed, Nothing, Incomplete, BadModule, Unsettled}
 use Rattle.ssu_route.proofs.Following.{after_one_more}
+use Rattle.ssu_route.specs.declared.choice.Choice.{Choice}
 use Rattle.ssu_loader.specs.declared.collector.Collector.{Collector}
-use Rattle.ssu_loader.specs.Collecting.{Collects, IsUsable}
+use Rattle.ssu_loader.specs.Collecting.{Collects, IsUsable, StopsBefore}
 use Rattle.ssu_loader.specs.Decisions.{IsOpen, TooMany, Whole, Wrong}
-use Rattle.ssu_loader.specs.Leaving.{Ends, GoesOn, InstallsChosen, SectionsLeave}
+use Rattle.ssu_loader.specs.Leaving.{Ends, GoesOn, IfUnsettled, InstallsChosen, SectionsLeave}
+use Rattle.ssu_loader.proofs.KeepingLaws.{installs_joined, installs_moved, leaves_moved}
 use Rattle.ssu_loader.proofs.LeftLaws.{left_now}
-use Rattle.ssu_route.specs.Windows.{beginnings, change_at}
-use Rattle.ssu_loader.specs.Verdicts.{IsSeen, IsSettled}
+use Rattle.ssu_route.specs.Windows.{beginnings, change_at, is_one_too_many}
+use Rattle.ssu_loader.specs.Verdicts.{IsFilled, IsSeen}
 use Rattle.ssu_loader.proofs.ChoiceLaws.{began_before, begun_more}
-use Rattle.ssu_loader.proofs.DecisionLaws.{reaches_more}
+use Rattle.ssu_loader.proofs.DecisionLaws.{decided_now, reaches_more}
 
 -- ---- more sections come
 
@@ -50,25 +56,25 @@ ends_more me later heard bank x y (Incomplete chosen count) is = absurd is.0
 
 -- ---- from an earlier moment on
 
-pub chosen_from : (me : Receiver) (heard : List Heard) (old new : Bank) (x y z : List ℕ) (chosen : Chosen) → Fits old x → SameBank old new → StageLeaves old x y → InstallsChosen me heard new y z chosen
+pub chosen_from : (me : Receiver) (heard : List Heard) (old new : Bank) (x y z : List ℕ) (chosen : Chosen) → Fits old x → SameBank old new → KeepsBoot (geometry_of old) x y → InstallsChosen me heard new y z chosen
     → InstallsChosen me heard old x z chosen
 chosen_from me heard old new x y z chosen fits same leaves is = record {
   image = is.image;
   reached = is.reached;
-  installs = installs_joined old (next_record old chosen.bytes chosen.software chosen.group) is.image x y z fits leaves
-      (installs_moved old new (next_record old chosen.bytes chosen.software chosen.group) is.image y z same
-      (subst (λ (r : Record). Installs new (record { number = r.number + 1; bank = 1 - r.bank; length = chosen.bytes; software = chosen.software; group = chosen.group }) is.image y z)
+  installs = installs_joined old (next_record (current_of old) chosen.bytes chosen.software chosen.group) is.image x y z fits leaves
+      (installs_moved old new (next_record (current_of old) chosen.bytes chosen.software chosen.group) is.image y z same
+      (subst (λ (r : Record). Installs (geometry_of new) (next_record r chosen.bytes chosen.software chosen.group) is.image y z)
       same.current is.installs));
 }
 
-pub leaves_from : (me : Receiver) (heard : List Heard) (old new : Bank) (x y z : List ℕ) → Fits old x → SameBank old new → StageLeaves old x y → SectionsLeave me heard new y z → SectionsLeave me heard old x z
+pub leaves_from : (me : Receiver) (heard : List Heard) (old new : Bank) (x y z : List ℕ) → Fits old x → SameBank old new → KeepsBoot (geometry_of old) x y → SectionsLeave me heard new y z → SectionsLeave me heard old x z
 leaves_from me heard old new x y z fits same leaves =
-    ⊎_elim (λ keeps. inl (leaves_joined old x y z leaves (leaves_moved old new y z same keeps))) (λ is. inr (is.0, chosen_from me heard old new x y z is.0 fits same leaves is.1))
+    ⊎_elim (λ keeps. inl (keeps_boot_joined (geometry_of old) x y z leaves (leaves_moved old new y z same keeps))) (λ is. inr (is.0, chosen_from me heard old new x y z is.0 fits same leaves is.1))
 
-pub ends_from : (me : Receiver) (heard : List Heard) (old new : Bank) (x y z : List ℕ) (v : Verdict) → Fits old x → SameBank old new → StageLeaves old x y → Ends me heard new y z v → Ends me heard old x z v
+pub ends_from : (me : Receiver) (heard : List Heard) (old new : Bank) (x y z : List ℕ) (v : Verdict) → Fits old x → SameBank old new → KeepsBoot (geometry_of old) x y → Ends me heard new y z v → Ends me heard old x z v
 ends_from me heard old new x y z (Installed chosen) fits same leaves is = chosen_from me heard old new x y z chosen fits same leaves is
-ends_from me heard old new x y z (BadModule id want found) fits same leaves is = (is.0, leaves_joined old x y z leaves (leaves_moved old new y z same is.1))
-ends_from me heard old new x y z Unsettled fits same leaves is = (is.0, leaves_joined old x y z leaves (leaves_moved old new y z same is.1))
+ends_from me heard old new x y z (BadModule id want found) fits same leaves is = (is.0, keeps_boot_joined (geometry_of old) x y z leaves (leaves_moved old new y z same is.1))
+ends_from me heard old new x y z Unsettled fits same leaves is = (is.0, keeps_boot_joined (geometry_of old) x y z leaves (leaves_moved old new y z same is.1))
 ends_from me heard old new x y z (Nothing level) fits same leaves is = absurd is.0
 ends_from me heard old new x y z (Incomplete chosen count) fits same leaves is = absurd is.0
 
@@ -83,23 +89,29 @@ after_rest pid sections k before =
     ∙ ap (λ (xs : List Heard). xs ++ before) (reverse-append (map (heard_on pid) (take k sections)) (map (heard_on pid) (drop k sections)))
     ∙ append_assoc (reverse (map (heard_on pid) (drop k sections))) (reverse (map (heard_on pid) (take k sections))) before
 
-settled_more : (me : Receiver) (later heard : List Heard) → IsSettled me heard → IsSettled me (later ++ heard)
-settled_more me later heard =
-    ⊎_elim (λ whole. inl (whole.0, whole.1, reaches_more me later heard (Whole whole.0 whole.1) whole.2))
-    (λ wrong. inr (wrong.0, wrong.1, wrong.2, reaches_more me later heard (Wrong wrong.0 wrong.1 wrong.2) wrong.3))
+filled_more : (me : Receiver) (later heard : List Heard) (choice : Choice) → IsFilled me heard choice → IsFilled me (later ++ heard) choice
+filled_more me later heard choice is = record {
+  later = later ++ is.later;
+  item = is.item;
+  earlier = is.earlier;
+  parts = ap (λ (items : List Heard). later ++ items) is.parts ∙ sym (append_assoc later is.later (is.item ∷ is.earlier));
+  undecided = is.undecided;
+  standing = is.standing;
+  filled = is.filled;
+}
 
 pub seen_more : (me : Receiver) (later heard : List Heard) (v : Verdict) → IsSeen me heard (Some v) → IsSeen me (later ++ heard) (Some v)
-seen_more me later heard (Installed chosen) seen = settled_more me later heard seen
-seen_more me later heard (BadModule id want found) seen = settled_more me later heard seen
+seen_more me later heard (Installed chosen) seen = (seen.0, (filled_more me later heard seen.0 seen.1.0, seen.1.1))
+seen_more me later heard (BadModule id want found) seen = (seen.0, (filled_more me later heard seen.0 seen.1.0, seen.1.1))
 seen_more me later heard Unsettled seen = reaches_more me later heard TooMany seen
 seen_more me later heard (Nothing level) seen = absurd seen
 seen_more me later heard (Incomplete chosen count) seen = absurd seen
 
 -- where nothing is decided, nothing is installed
-pub leaves_open : (me : Receiver) (heard : List Heard) (bank : Bank) (x y : List ℕ) → IsOpen me heard → SectionsLeave me heard bank x y → StageLeaves bank x y
+pub leaves_open : (me : Receiver) (heard : List Heard) (bank : Bank) (x y : List ℕ) → IsOpen me heard → SectionsLeave me heard bank x y → KeepsBoot (geometry_of bank) x y
 leaves_open me heard bank x y undecided = ⊎_elim (λ keeps. keeps) (λ is. absurd (undecided (Whole is.0 is.1.image) is.1.reached))
 
-pub goes_on_none : (me : Receiver) (heard : List Heard) (bank : Bank) (x y : List ℕ) (answer : Option Verdict) → answer ≡ None → GoesOn me heard bank x y answer → StageLeaves bank x y
+pub goes_on_none : (me : Receiver) (heard : List Heard) (bank : Bank) (x y : List ℕ) (answer : Option Verdict) → answer ≡ None → GoesOn me heard bank x y answer → KeepsBoot (geometry_of bank) x y
 goes_on_none me heard bank x y None is goes = goes
 goes_on_none me heard bank x y (Some v) is goes = absurd cc
 
@@ -114,8 +126,8 @@ module _ {S F : Type 0} (s : StageGhosts S) (f : FlashGhosts F) where
     pub untouched : (me : Receiver) (heard : List Heard) → Collects s f me heard old before → beginnings me (after_all pid (take k each) heard) ≡ 0 → now ≡ before
     pub bank : SameBank old.bank new.bank
     pub lent : IsLent f.tells f.contents f.block_count f.block_len new.bank now
-    pub leaves : f.tells → StageLeaves old.bank (f.contents before) (f.contents now)
-    pub left : f.tells → LeavesOnly f.moment f.left_since before now (StageLeaves old.bank (f.contents before))
+    pub leaves : f.tells → KeepsBoot (geometry_of old.bank) (f.contents before) (f.contents now)
+    pub left : f.tells → LeavesOnly f.moment f.left_since before now (KeepsBoot (geometry_of old.bank) (f.contents before))
     pub blocks : f.block_count now ≡ f.block_count before
     pub block_size : f.block_len now ≡ f.block_len before
     pub later : f.faults before ≤ f.faults now
@@ -127,8 +139,8 @@ module _ {S F : Type 0} (s : StageGhosts S) (f : FlashGhosts F) where
     untouched = λ me heard col none. refl;
     bank = bank_itself c.bank;
     lent = usable.collects.gathers.lent;
-    leaves = λ tells. leaves_same c.bank (f.contents flash) (usable.collects.gathers.lent.fits tells).sound;
-    left = λ tells. left_now f only flash (StageLeaves c.bank (f.contents flash)) (leaves_same c.bank (f.contents flash) (usable.collects.gathers.lent.fits tells).sound);
+    leaves = λ tells. keeps_boot_same (geometry_of c.bank) (f.contents flash) (usable.collects.gathers.lent.fits tells).sound;
+    left = λ tells. left_now f only flash (KeepsBoot (geometry_of c.bank) (f.contents flash)) (keeps_boot_same (geometry_of c.bank) (f.contents flash) (usable.collects.gathers.lent.fits tells).sound);
     blocks = refl;
     block_size = refl;
     later = omega arith;
@@ -141,7 +153,7 @@ module _ {S F : Type 0} (s : StageGhosts S) (f : FlashGhosts F) where
 
     -- the next section was heard, and nothing is decided
     pub heard_more : ((me : Receiver) (heard : List Heard) → Collects s f me heard mid between → Collects s f me (heard_on pid section ∷ heard) new now)
-        → (f.tells → (me : Receiver) (heard : List Heard) → Collects s f me heard mid between → StageLeaves mid.bank (f.contents between) (f.contents now))
+        → (f.tells → (me : Receiver) (heard : List Heard) → Collects s f me heard mid between → KeepsBoot (geometry_of mid.bank) (f.contents between) (f.contents now))
         → (f.tells → (me : Receiver) (heard : List Heard) → Collects s f me heard mid between
         → LeavesOnly f.moment f.left_since between now (SectionsLeave me (heard_on pid section ∷ heard) mid.bank (f.contents between)))
         → ((me : Receiver) (heard : List Heard) → Collects s f me heard mid between → beginnings me (heard_on pid section ∷ heard) ≡ 0 → now ≡ between)
@@ -157,16 +169,16 @@ module _ {S F : Type 0} (s : StageGhosts S) (f : FlashGhosts F) where
       bank = banks_joined old.bank mid.bank new.bank sofar.bank bank;
       lent = lent;
       leaves = λ tells.
-          leaves_joined old.bank (f.contents before) (f.contents between) (f.contents now) (sofar.leaves tells)
+          keeps_boot_joined (geometry_of old.bank) (f.contents before) (f.contents between) (f.contents now) (sofar.leaves tells)
           (leaves_moved old.bank mid.bank (f.contents between) (f.contents now) sofar.bank
           (leaves tells usable.me (earlier usable.heard) (sofar.collects usable.me usable.heard usable.collects)));
       left = λ tells.
           let me = usable.me in
           let col = sofar.collects me usable.heard usable.collects in
           let after = collects me (earlier usable.heard) col in
-          joined f.moment f.left_since before between now (StageLeaves old.bank (f.contents before)) (sofar.left tells)
-          (weaker f.moment f.left_since between now (SectionsLeave me (heard_on pid section ∷ earlier usable.heard) mid.bank (f.contents between)) (StageLeaves old.bank (f.contents before))
-          (λ y is. leaves_joined old.bank (f.contents before) (f.contents between) y (sofar.leaves tells)
+          joined f.moment f.left_since before between now (KeepsBoot (geometry_of old.bank) (f.contents before)) (sofar.left tells)
+          (weaker f.moment f.left_since between now (SectionsLeave me (heard_on pid section ∷ earlier usable.heard) mid.bank (f.contents between)) (KeepsBoot (geometry_of old.bank) (f.contents before))
+          (λ y is. keeps_boot_joined (geometry_of old.bank) (f.contents before) (f.contents between) y (sofar.leaves tells)
           (leaves_moved old.bank mid.bank (f.contents between) y sofar.bank
           (leaves_open me (heard_on pid section ∷ earlier usable.heard) mid.bank (f.contents between) y after.gathers.knows.undecided is)))
           (left tells me (earlier usable.heard) col));
@@ -199,6 +211,26 @@ module _ {S F : Type 0} (s : StageGhosts S) (f : FlashGhosts F) where
         subst (λ (items : List Heard). IsSeen me items (Some v)) (sym (all_is heard))
         (seen_more me rest (heard_on pid section ∷ earlier heard) v (subst (λ (o : Option Verdict). IsSeen me (heard_on pid section ∷ earlier heard) o) is seen))
 
+    -- where the next section brings one choice too many, the flash is as it was
+    pub heard_stops : (me : Receiver) (heard : List Heard) → Collects s f me heard old before → (v : Verdict) → IsSeen me (heard_on pid section ∷ earlier heard) (Some v)
+        → (IsTrue (is_one_too_many me (heard_on pid section ∷ earlier heard)) → now ≡ between) → IfUnsettled (Some v) (StopsBefore s f me (after_all pid each heard) now)
+    heard_stops me heard col (Installed chosen) seen same = tt
+    heard_stops me heard col (Nothing level) seen same = tt
+    heard_stops me heard col (Incomplete chosen count) seen same = tt
+    heard_stops me heard col (BadModule id want found) seen same = tt
+    heard_stops me heard col Unsettled seen same =
+        let before_it = sofar.collects me heard col in
+        let many = decided_now me (heard_on pid section) (earlier heard) TooMany before_it.gathers.knows.undecided seen in
+        record {
+          later = rest;
+          item = heard_on pid section;
+          earlier = earlier heard;
+          parts = all_is heard;
+          too_many = many;
+          collector = mid;
+          collects = subst (λ (flash : F). Collects s f me (earlier heard) mid flash) (sym (same many)) before_it;
+        }
+
     module _ (tells : f.tells) (me : Receiver) (heard : List Heard) where
       -- a decision at the next section
       pub heard_ends : (y : List ℕ) (v : Verdict) → Ends me (heard_on pid section ∷ earlier heard) mid.bank (f.contents between) y v → Ends me (after_all pid each heard) old.bank (f.contents before) y v
@@ -218,7 +250,7 @@ module _ {S F : Type 0} (s : StageGhosts S) (f : FlashGhosts F) where
           → LeavesOnly f.moment f.left_since before now (SectionsLeave me (after_all pid each heard) old.bank (f.contents before))
       heard_left left =
           joined f.moment f.left_since before between now (SectionsLeave me (after_all pid each heard) old.bank (f.contents before))
-          (weaker f.moment f.left_since before between (StageLeaves old.bank (f.contents before)) (SectionsLeave me (after_all pid each heard) old.bank (f.contents before)) (λ y is. inl is) (sofar.left tells))
+          (weaker f.moment f.left_since before between (KeepsBoot (geometry_of old.bank) (f.contents before)) (SectionsLeave me (after_all pid each heard) old.bank (f.contents before)) (λ y is. inl is) (sofar.left tells))
           (weaker f.moment f.left_since between now (SectionsLeave me (heard_on pid section ∷ earlier heard) mid.bank (f.contents between)) (SectionsLeave me (after_all pid each heard) old.bank (f.contents before))
           heard_leaves left)
 

@@ -7,6 +7,7 @@ pub mod TakingLaws
 pub mod AnsweringLaws
 pub mod FillingLaws
 pub mod PlanLaws
+pub mod ReplayLaws
 pub mod LeftLaws
 pub mod SettlingLaws
 pub mod SearchLaws
@@ -16,3 +17,5 @@ pub mod CollectingLaws
 pub mod HearingLaws
 pub mod PacketLaws
 pub mod FreshLaws
+pub mod UnlessLaws
+pub mod StoringLaws

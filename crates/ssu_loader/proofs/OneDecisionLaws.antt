@@ -46,7 +46,7 @@ whole_not_wrong me heard c i id want found first second =
     let same = one_choice me heard a b first.standing.chosen second.standing.chosen in
     let none : wrong_module a.plan.modules.items (carried_image a.plan (window me heard)) ≡ None =
     ap (λ (image : List ℕ). wrong_module a.plan.modules.items image) (sym first.whole.joins) ∙ first.whole.right in
-    let some : None ≡ Some second.module_plan = sym none ∙ (same_wrong a b (window me heard) same ∙ second.first) in
+    let some : None ≡ Some second.wrong.module_plan = sym none ∙ (same_wrong a b (window me heard) same ∙ second.wrong.first) in
     cc
 
 wrongs_one : (me : Receiver) (heard : List Heard) (id want found id' want' found' : ℕ) → IsWrong me heard id want found → IsWrong me heard id' want' found' → Wrong id want found ≡ Wrong id' want' found'
@@ -54,15 +54,15 @@ wrongs_one me heard id want found id' want' found' first second =
     let a = first.choice in
     let b = second.choice in
     let same = one_choice me heard a b first.standing.chosen second.standing.chosen in
-    let m = first.module_plan in
-    let n = second.module_plan in
-    let module_plan : m ≡ n = some_same m n (sym first.first ∙ (same_wrong a b (window me heard) same ∙ second.first)) in
-    let own_id : id ≡ id' = first.own_id ∙ (ap (λ (p : ModulePlan). p.id) module_plan ∙ sym second.own_id) in
-    let wanted : want ≡ want' = some_same want want' (sym first.wanted ∙ (ap (λ (p : ModulePlan). p.crc) module_plan ∙ second.wanted)) in
+    let m = first.wrong.module_plan in
+    let n = second.wrong.module_plan in
+    let module_plan : m ≡ n = some_same m n (sym first.wrong.first ∙ (same_wrong a b (window me heard) same ∙ second.wrong.first)) in
+    let own_id : id ≡ id' = first.wrong.own_id ∙ (ap (λ (p : ModulePlan). p.id) module_plan ∙ sym second.wrong.own_id) in
+    let wanted : want ≡ want' = some_same want want' (sym first.wrong.wanted ∙ (ap (λ (p : ModulePlan). p.crc) module_plan ∙ second.wrong.wanted)) in
     let image = same_image a.plan b.plan (window me heard) same.plan in
     let has : found ≡ found' =
-    first.has ∙ (ap (λ (p : ModulePlan). crc_of (module_bytes (carried_image a.plan (window me heard)) p)) module_plan
-    ∙ (ap (λ (bytes : List ℕ). crc_of (module_bytes bytes n)) image ∙ sym second.has)) in
+    first.wrong.has ∙ (ap (λ (p : ModulePlan). crc_of (module_bytes (carried_image a.plan (window me heard)) p)) module_plan
+    ∙ (ap (λ (bytes : List ℕ). crc_of (module_bytes bytes n)) image ∙ sym second.wrong.has)) in
     (λ k. Wrong (own_id k) (wanted k) (has k))
 
 -- Where one choice came too many, none stands.

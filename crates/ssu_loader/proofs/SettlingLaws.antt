@@ -1,15 +1,17 @@
 -- A group of which no place is missing: what its modules are, and what is installed.
-use Rattle.std.proofs.Common.{◌≡◌, inl, inr, ⊎_elim, ℕ, ◌+◌, ◌-◌, ◌<◌, Bool, true, false, eqb, List, [], Option, Some, None, refl, sym, ap, subst, ◌∙◌}
+use Rattle.std.proofs.Common.{◌≡◌, inl, inr, ⊎_elim, ℕ, ◌+◌, ◌<◌, Bool, true, false, eqb, List, [], Option, Some, None, refl, sym, ap, subst, ◌∙◌}
 use Rattle.std.specs.Prelude.{Contains, IfSome, MatchOption, is_some, unwrap_or}
 use Rattle.std.specs.List.{find}
 use Rattle.std.proofs.lemmas.Bool.{eq-eqb, eqb-true}
 use Rattle.ts_crc.specs.Crc.{crc_of}
-use Rattle.flash_bank.specs.Bank.{Fits, next_record}
+use Rattle.flash_bank.specs.Bank.{Fits, current_of, geometry_of}
+use Rattle.flash_bank.specs.Leaving.{Installs, KeepsBoot}
+use Rattle.flash_bank.specs.Record.{next_record}
+use Rattle.flash_bank.proofs.LeavingLemmas.{keeps_boot_joined}
 use Rattle.flash_bank.specs.declared.bank.Bank.{Bank}
 use Rattle.flash_bank.specs.declared.record.Record.{Record}
-use Rattle.flash_stage.specs.Leaving.{FinishLeaves, Installs, SameBank, StageLeaves}
+use Rattle.flash_stage.specs.Leaving.{FinishLeaves, SameBank}
 use Rattle.flash_stage.specs.Outline.{Outline, group_text, module_text, outline_of}
-use Rattle.flash_stage.proofs.LeavingLaws.{installs_joined, installs_moved, leaves_joined, leaves_moved}
 use Rattle.flash_stage.proofs.TextLaws.{carried_module, joined_same, module_below}
 use Rattle.ssu_group.specs.declared.group_plan.GroupPlan.{GroupPlan}
 use Rattle.ssu_group.specs.declared.module_plan.ModulePlan.{ModulePlan}
@@ -20,8 +22,10 @@ use Rattle.ssu_route.specs.declared.choice.Choice.{Choice}
 use Rattle.ssu_loader.specs.declared.wrong.Wrong.{Wrong}
 use Rattle.ssu_loader.specs.declared.verdict.Verdict.{Verdict}
 use Rattle.ssu_loader.specs.declared.verdict.Verdict.TheVariants.{Installed, Nothing, Incomplete, BadModule, Unsettled}
-use Rattle.ssu_loader.specs.Settling.{HasWrong, InstallsWhole, IsWrongOf, Settles, SettlingLeaves, is_wrong}
+use Rattle.ssu_loader.specs.Decisions.{HasWrong}
+use Rattle.ssu_loader.specs.Settling.{InstallsWhole, IsWrongOf, Settles, SettlingLeaves, is_wrong}
 use Rattle.ssu_loader.proofs.FillingLaws.{text_filled}
+use Rattle.ssu_loader.proofs.KeepingLaws.{installs_joined, installs_moved, leaves_moved}
 
 -- ---- the places of a plan
 
@@ -80,7 +84,7 @@ wrong_answer image m text want found (Some wrong) crc has is differs =
 
 pub installs_whole : (choice : Choice) (window : List (List ℕ)) (bank : Bank) (x y : List ℕ) (outline : Outline) (image : List ℕ) → outline ≡ outline_of choice.plan
     → missing_places choice.plan window ≡ 0 → image ≡ carried_image choice.plan window → wrong_module choice.plan.modules.items (carried_image choice.plan window) ≡ None
-    → Installs bank (next_record bank outline.total choice.software choice.group) image x y → InstallsWhole choice window bank x y
+    → Installs (geometry_of bank) (next_record (current_of bank) outline.total choice.software choice.group) image x y → InstallsWhole choice window bank x y
 installs_whole choice window bank x y outline image is filled joins right installs = record {
   image = image;
   whole = record {
@@ -88,12 +92,12 @@ installs_whole choice window bank x y outline image is filled joins right instal
     joins = joins;
     right = subst (λ (bytes : List ℕ). wrong_module choice.plan.modules.items bytes ≡ None) (sym joins) right;
   };
-  installs = subst (λ (o : Outline). Installs bank (next_record bank o.total choice.software choice.group) image x y) is installs;
+  installs = subst (λ (o : Outline). Installs (geometry_of bank) (next_record (current_of bank) o.total choice.software choice.group) image x y) is installs;
 }
 
 pub finish_settles : (choice : Choice) (window : List (List ℕ)) (bank : Bank) (x y : List ℕ) (outline : Outline) (image : List ℕ) → outline ≡ outline_of choice.plan
     → missing_places choice.plan window ≡ 0 → image ≡ carried_image choice.plan window → wrong_module choice.plan.modules.items (carried_image choice.plan window) ≡ None
-    → FinishLeaves bank (next_record bank outline.total choice.software choice.group) image x y → SettlingLeaves choice window bank x y
+    → FinishLeaves (geometry_of bank) (next_record (current_of bank) outline.total choice.software choice.group) image x y → SettlingLeaves choice window bank x y
 finish_settles choice window bank x y outline image is filled joins right =
     ⊎_elim (λ keeps. inl keeps) (λ installs. inr (installs_whole choice window bank x y outline image is filled joins right installs))
 
@@ -103,8 +107,8 @@ pub whole_moved : (choice : Choice) (window : List (List ℕ)) (old new : Bank) 
 whole_moved choice window old new x y same installs = record {
   image = installs.image;
   whole = installs.whole;
-  installs = installs_moved old new (next_record old choice.plan.total choice.software choice.group) installs.image x y same
-      (subst (λ (r : Record). Installs new (record { number = r.number + 1; bank = 1 - r.bank; length = choice.plan.total; software = choice.software; group = choice.group }) installs.image x y)
+  installs = installs_moved old new (next_record (current_of old) choice.plan.total choice.software choice.group) installs.image x y same
+      (subst (λ (r : Record). Installs (geometry_of new) (next_record r choice.plan.total choice.software choice.group) installs.image x y)
       same.current installs.installs);
 }
 
@@ -127,7 +131,7 @@ answer_moved choice window old new x y (Some verdict) same settles = settles_mov
 -- a module is wrong
 pub has_wrong : (choice : Choice) (window : List (List ℕ)) (m : ModulePlan) (wrong : Wrong) → missing_places choice.plan window ≡ 0
     → find (is_wrong (carried_image choice.plan window)) choice.plan.modules.items ≡ Some m → IsWrongOf (carried_image choice.plan window) m wrong
-    → HasWrong choice window wrong.id wrong.want wrong.found
+    → HasWrong choice.plan window wrong.id wrong.want wrong.found
 unfolding wrong_module
 has_wrong choice window m wrong filled first is = record {
   filled = filled;
@@ -146,22 +150,22 @@ none_wrong choice window none = none
 
 -- ---- after the calls that left the former boot
 
-pub whole_joined : (choice : Choice) (window : List (List ℕ)) (bank : Bank) (x y z : List ℕ) → Fits bank x → StageLeaves bank x y → InstallsWhole choice window bank y z → InstallsWhole choice window bank x z
+pub whole_joined : (choice : Choice) (window : List (List ℕ)) (bank : Bank) (x y z : List ℕ) → Fits bank x → KeepsBoot (geometry_of bank) x y → InstallsWhole choice window bank y z → InstallsWhole choice window bank x z
 whole_joined choice window bank x y z fits leaves installs = record {
   image = installs.image;
   whole = installs.whole;
-  installs = installs_joined bank (next_record bank choice.plan.total choice.software choice.group) installs.image x y z fits leaves installs.installs;
+  installs = installs_joined bank (next_record (current_of bank) choice.plan.total choice.software choice.group) installs.image x y z fits leaves installs.installs;
 }
 
-pub settling_joined : (choice : Choice) (window : List (List ℕ)) (bank : Bank) (x y z : List ℕ) → Fits bank x → StageLeaves bank x y → SettlingLeaves choice window bank y z → SettlingLeaves choice window bank x z
+pub settling_joined : (choice : Choice) (window : List (List ℕ)) (bank : Bank) (x y z : List ℕ) → Fits bank x → KeepsBoot (geometry_of bank) x y → SettlingLeaves choice window bank y z → SettlingLeaves choice window bank x z
 settling_joined choice window bank x y z fits leaves =
-    ⊎_elim (λ keeps. inl (leaves_joined bank x y z leaves keeps)) (λ installs. inr (whole_joined choice window bank x y z fits leaves installs))
+    ⊎_elim (λ keeps. inl (keeps_boot_joined (geometry_of bank) x y z leaves keeps)) (λ installs. inr (whole_joined choice window bank x y z fits leaves installs))
 
-pub settles_joined : (choice : Choice) (window : List (List ℕ)) (bank : Bank) (x y z : List ℕ) (answer : Option Verdict) → Fits bank x → StageLeaves bank x y
+pub settles_joined : (choice : Choice) (window : List (List ℕ)) (bank : Bank) (x y z : List ℕ) (answer : Option Verdict) → Fits bank x → KeepsBoot (geometry_of bank) x y
     → IfSome answer (Settles choice window bank y z) → IfSome answer (Settles choice window bank x z)
 settles_joined choice window bank x y z None fits leaves settles = tt
 settles_joined choice window bank x y z (Some (Installed chosen)) fits leaves settles = (settles.0, whole_joined choice window bank x y z fits leaves settles.1)
-settles_joined choice window bank x y z (Some (BadModule id want found)) fits leaves settles = (settles.0, leaves_joined bank x y z leaves settles.1)
+settles_joined choice window bank x y z (Some (BadModule id want found)) fits leaves settles = (settles.0, keeps_boot_joined (geometry_of bank) x y z leaves settles.1)
 settles_joined choice window bank x y z (Some (Nothing level)) fits leaves settles = settles
 settles_joined choice window bank x y z (Some (Incomplete chosen count)) fits leaves settles = settles
 settles_joined choice window bank x y z (Some Unsettled) fits leaves settles = settles

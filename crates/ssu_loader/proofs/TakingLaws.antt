@@ -1,5 +1,5 @@
 -- What a loader knows, and what it left, after the packets that it took of a source one after another.
-use Rattle.std.proofs.Common.{◌≡◌, inl, inr, ⊎_elim, ℕ, ◌+◌, ◌*◌, ◌<◌, List, [], ◌∷◌, ◌++◌, length, reverse, Option, Some, refl, sym, ap, subst, ◌∙◌, arith, length-append}
+use Rattle.std.proofs.Common.{◌≡◌, inl, inr, ⊎_elim, ℕ, ◌+◌, ◌*◌, ◌<◌, List, [], ◌∷◌, ◌++◌, length, reverse, Bool, true, Option, Some, refl, sym, ap, subst, ◌∙◌, arith, length-append}
 use Rattle.std.proofs.lemmas.List.{reverse-append}
 use Rattle.ssu_io.specs.Bytes.{Takes}
 use Rattle.ssu_io.proofs.BytesLemmas.{Takes_none, Takes_join}
@@ -12,10 +12,12 @@ use Rattle.flash_dev.specs.declared.device.Flash.{Ghosts as FlashGhosts}
 use Rattle.flash_dev.specs.Moments.{LeavesOnly}
 use Rattle.flash_dev.proofs.Moments.{joined, weaker}
 use Rattle.flash_bank.specs.Bank.{Fits, geometry_of}
-use Rattle.flash_bank.specs.Layout.{Geometry}
+use Rattle.flash_bank.specs.Layout.{Geometry, blocks_of}
 use Rattle.flash_stage.specs.declared.stage.Stage.{Ghosts as StageGhosts}
-use Rattle.flash_stage.specs.Leaving.{SameBank, StageLeaves}
-use Rattle.flash_stage.proofs.LeavingLaws.{bank_itself, banks_joined, leaves_same}
+use Rattle.flash_bank.specs.Leaving.{KeepsBoot}
+use Rattle.flash_bank.proofs.LeavingLemmas.{keeps_boot_same}
+use Rattle.flash_stage.specs.Leaving.{SameBank}
+use Rattle.flash_stage.proofs.LeavingLaws.{bank_itself, banks_joined}
 use Rattle.ssu_answer.specs.declared.chosen.Chosen.{Chosen}
 use Rattle.route_tables.specs.Values.{Receiver}
 use Rattle.ssu_route.specs.Queries.{heard_by}
@@ -24,13 +26,17 @@ use Rattle.ssu_loader.specs.declared.loader.Loader.{Loader}
 use Rattle.ssu_loader.specs.declared.verdict.Verdict.{Verdict}
 use Rattle.ssu_loader.specs.declared.verdict.Verdict.TheVariants.{Installed, Nothing, Incomplete, BadModule, Unsettled}
 use Rattle.ssu_loader.specs.Decisions.{IsOpen, Reaches, TooMany, Whole, Wrong}
-use Rattle.ssu_loader.specs.Leaving.{Ends, InstallsChosen, SectionsLeave}
+use Rattle.ssu_loader.specs.Collecting.{StopsBefore}
+use Rattle.ssu_loader.specs.Leaving.{Ends, IfUnsettled, InstallsChosen, SectionsLeave}
 use Rattle.ssu_loader.specs.Loading.{Follows, IsUsable, KnowsPackets, bank_of}
-use Rattle.ssu_loader.specs.Replays.{ArePackets, ComesOf, ComesSeen, EndsWith, HearsAtPacket, HearsIn, IsNone, IsNoneOrPackets, KeepsBoot, ReplayLeaves, TakesAndInstalls, TakesBytes, VerdictTakes, heard_in}
+use Rattle.ssu_loader.specs.Replays.{ComesSeen, EndsWith, HearsAtPacket, HearsIn, ReplayLeaves, TakesAndInstalls, heard_in}
+use Rattle.ssu_loader.specs.Storing.{Stores, StoresBefore}
 use Rattle.ssu_loader.specs.Verdicts.{IsReached, IsSeen, IsVerdict}
 use Rattle.ssu_loader.proofs.FrontLaws.{none_before, taken_is}
-use Rattle.ssu_loader.proofs.KeepingLaws.{installs_after, installs_of, keeps_boot, leaves_after}
+use Rattle.ssu_loader.proofs.KeepingLaws.{installs_after, installs_of, leaves_after}
+use Rattle.ssu_loader.proofs.FreshLaws.{same_geometry}
 use Rattle.ssu_loader.proofs.LeftLaws.{left_now}
+use Rattle.ssu_loader.proofs.StoringLaws.{InBank, stores_before, stores_of}
 
 -- ---- what is heard in the bytes that were taken
 
@@ -79,8 +85,8 @@ pub record SoFar {S F : Type 0} (s : StageGhosts S) (f : FlashGhosts F) (count :
   pub follows : (me : Receiver) → Follows s f me [] first old → Follows s f me (newest_packets taken) now new
   pub same : SameBank (bank_of first) (bank_of now)
   pub fits : f.tells → Fits (bank_of first) (f.contents old)
-  pub held : f.tells → StageLeaves (bank_of first) (f.contents old) (f.contents new)
-  pub left : f.tells → LeavesOnly f.moment f.left_since old new (StageLeaves (bank_of first) (f.contents old))
+  pub held : f.tells → KeepsBoot (geometry_of (bank_of first)) (f.contents old) (f.contents new)
+  pub left : f.tells → LeavesOnly f.moment f.left_since old new (KeepsBoot (geometry_of (bank_of first)) (f.contents old))
   pub untouched : (me : Receiver) → Follows s f me [] first old → beginnings me (heard_by me (newest_packets taken)) ≡ 0 → new ≡ old
   pub blocks : f.block_count new ≡ f.block_count old
   pub block_size : f.block_len new ≡ f.block_len old
@@ -90,7 +96,7 @@ pub so_far_none : {S F : Type 0} (s : StageGhosts S) (f : FlashGhosts F) (loader
     → SoFar s f 0 loader loader flash flash left left
 so_far_none s f loader flash left only usable =
     let fits = λ (tells : f.tells). fits_it s f loader flash tells usable in
-    let same = λ (tells : f.tells). leaves_same (bank_of loader) (f.contents flash) (fits tells).sound in
+    let same = λ (tells : f.tells). keeps_boot_same (geometry_of (bank_of loader)) (f.contents flash) (fits tells).sound in
     record {
       taken = [];
       takes = Takes_none left;
@@ -100,7 +106,7 @@ so_far_none s f loader flash left only usable =
       same = bank_itself (bank_of loader);
       fits = fits;
       held = same;
-      left = λ tells. left_now f only flash (StageLeaves (bank_of loader) (f.contents flash)) (same tells);
+      left = λ tells. left_now f only flash (KeepsBoot (geometry_of (bank_of loader)) (f.contents flash)) (same tells);
       untouched = λ me follows none. refl;
       blocks = refl;
       block_size = refl;
@@ -111,7 +117,7 @@ so_far_none s f loader flash left only usable =
 -- What the loader says of a packet at which no verdict is reached.
 pub record GoesOnWith {S F : Type 0} (s : StageGhosts S) (f : FlashGhosts F) (packet : List ℕ) (now then : Loader S) (mid new : F) : Type 0 where
   pub follows : (me : Receiver) (ps : List (List ℕ)) → Follows s f me ps now mid → Follows s f me (packet ∷ ps) then new
-  pub held : f.tells → (me : Receiver) (ps : List (List ℕ)) → Follows s f me ps now mid → StageLeaves (bank_of now) (f.contents mid) (f.contents new)
+  pub held : f.tells → (me : Receiver) (ps : List (List ℕ)) → Follows s f me ps now mid → KeepsBoot (geometry_of (bank_of now)) (f.contents mid) (f.contents new)
   pub left : f.tells → (me : Receiver) (ps : List (List ℕ)) → Follows s f me ps now mid
       → LeavesOnly f.moment f.left_since mid new (SectionsLeave me (heard_by me (packet ∷ ps)) (bank_of now) (f.contents mid))
   pub untouched : (me : Receiver) (ps : List (List ℕ)) → Follows s f me ps now mid → beginnings me (heard_by me (packet ∷ ps)) ≡ 0 → new ≡ mid
@@ -123,7 +129,7 @@ module _ {S F : Type 0} (s : StageGhosts S) (f : FlashGhosts F) (count : ℕ) (f
     (so_far : SoFar s f count first now old mid left left_now) where
   -- what is left while nothing is decided
   undecided_left : (me : Receiver) (heard : List Heard) → f.tells → IsOpen me heard → (c : List ℕ)
-      → SectionsLeave me heard (bank_of now) (f.contents mid) c → StageLeaves (bank_of first) (f.contents old) c
+      → SectionsLeave me heard (bank_of now) (f.contents mid) c → KeepsBoot (geometry_of (bank_of first)) (f.contents old) c
   undecided_left me heard tells undecided c =
       ⊎_elim (λ leaves. leaves_after (bank_of first) (bank_of now) (f.contents old) (f.contents mid) c so_far.same (so_far.held tells) leaves)
       (λ installs. absurd (undecided (Whole installs.0 installs.1.image) installs.1.reached))
@@ -150,8 +156,8 @@ module _ {S F : Type 0} (s : StageGhosts S) (f : FlashGhosts F) (count : ℕ) (f
         same = banks_joined (bank_of first) (bank_of now) (bank_of then) so_far.same goes.same_bank;
         fits = so_far.fits;
         held = λ tells. leaves_after (bank_of first) (bank_of now) (f.contents old) (f.contents mid) (f.contents new) so_far.same (so_far.held tells) (goes.held tells me ps own);
-        left = λ tells. joined f.moment f.left_since old mid new (StageLeaves (bank_of first) (f.contents old)) (so_far.left tells)
-            (weaker f.moment f.left_since mid new (SectionsLeave me (heard_by me (packet ∷ ps)) (bank_of now) (f.contents mid)) (StageLeaves (bank_of first) (f.contents old))
+        left = λ tells. joined f.moment f.left_since old mid new (KeepsBoot (geometry_of (bank_of first)) (f.contents old)) (so_far.left tells)
+            (weaker f.moment f.left_since mid new (SectionsLeave me (heard_by me (packet ∷ ps)) (bank_of now) (f.contents mid)) (KeepsBoot (geometry_of (bank_of first)) (f.contents old))
             (undecided_left me (heard_by me (packet ∷ ps)) tells (is_open s f me (packet ∷ ps) then new after))
             (goes.left tells me ps own));
         untouched = λ you follows none.
@@ -164,13 +170,21 @@ module _ {S F : Type 0} (s : StageGhosts S) (f : FlashGhosts F) (count : ℕ) (f
   -- ---- an answer without a verdict
 
   pub kept : f.tells → KeepsBoot (geometry_of (bank_of first)) (f.contents old) (f.contents mid)
-  kept tells = keeps_boot (bank_of first) (f.contents old) (f.contents mid) (so_far.fits tells) (so_far.held tells)
+  kept tells = so_far.held tells
 
   pub left_kept : (me : Receiver) (left_then : Option (List ℕ)) → f.tells
       → LeavesOnly f.moment f.left_since old mid (ReplayLeaves me left left_then (geometry_of (bank_of first)) (f.contents old))
   left_kept me left_then tells =
-      weaker f.moment f.left_since old mid (StageLeaves (bank_of first) (f.contents old)) (ReplayLeaves me left left_then (geometry_of (bank_of first)) (f.contents old))
-      (λ c leaves. inl (keeps_boot (bank_of first) (f.contents old) c (so_far.fits tells) leaves)) (so_far.left tells)
+      weaker f.moment f.left_since old mid (KeepsBoot (geometry_of (bank_of first)) (f.contents old)) (ReplayLeaves me left left_then (geometry_of (bank_of first)) (f.contents old))
+      (λ c leaves. inl leaves) (so_far.left tells)
+
+  -- the places of the choice that stands
+  pub stored_now : InBank s → s.IN_BANK ≡ true → f.tells → (me : Receiver) → Follows s f me [] first old
+      → Stores (geometry_of (bank_of first)) (f.contents mid) me (heard_by me (newest_packets so_far.taken))
+  stored_now law in_bank tells me follows =
+      let sections = heard_by me (newest_packets so_far.taken) in
+      subst (λ (blocks : Geometry). Stores blocks (f.contents mid) me sections) so_far.same.geometry
+      (stores_of s f law in_bank tells me sections now.collector mid (so_far.follows me follows).collects)
 
   pub open_now : (me : Receiver) → Follows s f me [] first old → IsOpen me (heard_by me (newest_packets so_far.taken))
   open_now me follows = is_open s f me (newest_packets so_far.taken) now mid (so_far.follows me follows)
@@ -254,10 +268,8 @@ module _ {S F : Type 0} (s : StageGhosts S) (f : FlashGhosts F) (count : ℕ) (f
           (installs_after (bank_of first) (bank_of now) chosen installs.image (f.contents old) (f.contents mid) y (so_far.fits tells) so_far.same (so_far.held tells) installs.installs);
     }
 
-    keeps_at : (y : List ℕ) → StageLeaves (bank_of now) (f.contents mid) y → KeepsBoot g (f.contents old) y
-    keeps_at y leaves =
-        keeps_boot (bank_of first) (f.contents old) y (so_far.fits tells)
-        (leaves_after (bank_of first) (bank_of now) (f.contents old) (f.contents mid) y so_far.same (so_far.held tells) leaves)
+    keeps_at : (y : List ℕ) → KeepsBoot (geometry_of (bank_of now)) (f.contents mid) y → KeepsBoot g (f.contents old) y
+    keeps_at y leaves = leaves_after (bank_of first) (bank_of now) (f.contents old) (f.contents mid) y so_far.same (so_far.held tells) leaves
 
     -- what the packet may leave
     pub leaves_at : (y : List ℕ) → SectionsLeave me heard (bank_of now) (f.contents mid) y → ReplayLeaves me left left_then g (f.contents old) y
@@ -270,39 +282,23 @@ module _ {S F : Type 0} (s : StageGhosts S) (f : FlashGhosts F) (count : ℕ) (f
         (weaker f.moment f.left_since mid new (SectionsLeave me heard (bank_of now) (f.contents mid)) (ReplayLeaves me left left_then g (f.contents old)) leaves_at during)
 
     -- the verdict that it brings
-    pub comes_at : (v : Verdict) (y : List ℕ) → Ends me heard (bank_of now) (f.contents mid) y v → ComesOf me left left_then v
-    comes_at (Installed chosen) y installs =
-        at_packet me left_then packet (λ sections. IsReached me sections (Installed chosen)) (IsOpen me) takes one few (installs.image, installs.reached) (open_now me follows)
-    comes_at (Nothing level) y ends = absurd ends.0
-    comes_at (Incomplete chosen missing) y ends = absurd ends.0
-    comes_at (BadModule id want found) y ends =
-        at_packet me left_then packet (λ sections. IsReached me sections (BadModule id want found)) (IsOpen me) takes one few ends.0 (open_now me follows)
-    comes_at Unsettled y ends = at_packet me left_then packet (λ sections. IsReached me sections Unsettled) (IsOpen me) takes one few ends.0 (open_now me follows)
-
-    pub ends_at : (v : Verdict) (y : List ℕ) → Ends me heard (bank_of now) (f.contents mid) y v → EndsWith me left left_then g (f.contents old) y v
-    ends_at (Installed chosen) y installs = installs_at chosen y installs
-    ends_at (Nothing level) y ends = absurd ends.0
-    ends_at (Incomplete chosen missing) y ends = absurd ends.0
-    ends_at (BadModule id want found) y ends = keeps_at y ends.1
-    ends_at Unsettled y ends = keeps_at y ends.1
-
--- ---- how many bytes were taken
-
-pub bytes_of : {me : Receiver} {left left_then : Option (List ℕ)} {Length : ℕ → Type 0} {Now : List Heard → Type 0} → HearsIn me left left_then Length Now → TakesBytes left left_then Length
-bytes_of hears = record { taken = hears.taken; takes = hears.takes; bytes = hears.bytes }
-
-pub packets_of : {me : Receiver} {left left_then : Option (List ℕ)} {Now Before : List Heard → Type 0} → HearsAtPacket me left left_then Now Before → TakesBytes left left_then ArePackets
-packets_of hears = record {
-  taken = hears.earlier ++ hears.packet;
-  takes = hears.takes;
-  bytes = record { count = hears.count; within = hears.within; whole = omega (arith, length-append hears.earlier hears.packet, hears.whole, hears.one) };
-}
-
-pub packets_broken : (left left_then : Option (List ℕ)) → TakesBytes left left_then ArePackets → TakesBytes left left_then IsNoneOrPackets
-packets_broken left left_then bytes = record { taken = bytes.taken; takes = bytes.takes; bytes = inr bytes.bytes }
-
-pub none_taken : (left : Option (List ℕ)) → TakesBytes left left IsNone
-none_taken left = record { taken = []; takes = Takes_none left; bytes = refl }
+    pub ends_at : (law : InBank s) (v : Verdict) (new : F) → Ends me heard (bank_of now) (f.contents mid) (f.contents new) v → IfUnsettled (Some v) (StopsBefore s f me heard new)
+        → f.block_count new ≡ f.block_count mid → f.block_len new ≡ f.block_len mid → EndsWith s.IN_BANK me left left_then g (f.contents old) (f.contents new) v
+    ends_at law (Installed chosen) new installs stops blocks lens = installs_at chosen (f.contents new) installs
+    ends_at law (Nothing level) new ends stops blocks lens = absurd ends.0
+    ends_at law (Incomplete chosen missing) new ends stops blocks lens = absurd ends.0
+    ends_at law (BadModule id want found) new ends stops blocks lens = (
+      at_packet me left_then packet (λ sections. IsReached me sections (BadModule id want found)) (IsOpen me) takes one few ends.0 (open_now me follows),
+      keeps_at (f.contents new) ends.1,
+    )
+    ends_at law Unsettled new ends stops blocks lens =
+        let lent = follows.collects.gathers.lent in
+        let own : blocks_of f new ≡ g = same_geometry (blocks_of f new) g (blocks ∙ (so_far.blocks ∙ lent.blocks)) (lens ∙ (so_far.block_size ∙ lent.block_size)) in
+        let y = f.contents new in (
+          at_packet me left_then packet (λ sections. IsReached me sections Unsettled × (s.IN_BANK ≡ true → StoresBefore g y me sections)) (IsOpen me) takes one few
+              (ends.0, λ is. subst (λ (blocks : Geometry). StoresBefore blocks y me heard) own (stores_before s f law is tells me heard new stops)) (open_now me follows),
+          keeps_at y ends.1,
+        )
 
 -- ---- where no choice began
 
@@ -327,44 +323,25 @@ untouched_at me left left_then Before old new hears taken rest told told_then no
 abbrev pub ComesLast : Receiver → Verdict → List Heard → Type 0
 ComesLast me v heard = IsVerdict me heard v × IsOpen me heard
 
-pub comes_last : (me : Receiver) (v : Verdict) (left left_then : Option (List ℕ)) → HearsIn me left left_then IsWithin (ComesLast me v) → IsAtEnd left_then → ComesOf me left left_then v
-comes_last me (Installed chosen) left left_then hears end = absurd (hears.now.1 (Whole chosen hears.now.0.0) hears.now.0.1)
-comes_last me (Nothing level) left left_then hears end =
-    record { hears = record { taken = hears.taken; takes = hears.takes; bytes = hears.bytes; now = hears.now.0 }; end = end }
-comes_last me (Incomplete chosen missing) left left_then hears end =
-    record { hears = record { taken = hears.taken; takes = hears.takes; bytes = hears.bytes; now = hears.now.0 }; end = end }
-comes_last me (BadModule id want found) left left_then hears end = absurd (hears.now.1 (Wrong id want found) hears.now.0)
-comes_last me Unsettled left left_then hears end = absurd (hears.now.1 TooMany hears.now.0)
-
-pub ends_last : (me : Receiver) (v : Verdict) (left left_then : Option (List ℕ)) (g : Geometry) (x y : List ℕ) → HearsIn me left left_then IsWithin (ComesLast me v) → KeepsBoot g x y
-    → EndsWith me left left_then g x y v
-ends_last me (Installed chosen) left left_then g x y hears keeps = absurd (hears.now.1 (Whole chosen hears.now.0.0) hears.now.0.1)
-ends_last me (Nothing level) left left_then g x y hears keeps = keeps
-ends_last me (Incomplete chosen missing) left left_then g x y hears keeps = keeps
-ends_last me (BadModule id want found) left left_then g x y hears keeps = keeps
-ends_last me Unsettled left left_then g x y hears keeps = keeps
-
 pub seen_last : (me : Receiver) (v : Verdict) (left left_then : Option (List ℕ)) → HearsIn me left left_then IsWithin (ComesLast me v) → IsAtEnd left_then → ComesSeen me left left_then v
 seen_last me (Installed chosen) left left_then hears end = absurd (hears.now.1 (Whole chosen hears.now.0.0) hears.now.0.1)
-seen_last me (Nothing level) left left_then hears end = comes_last me (Nothing level) left left_then hears end
-seen_last me (Incomplete chosen missing) left left_then hears end = comes_last me (Incomplete chosen missing) left left_then hears end
+seen_last me (Nothing level) left left_then hears end =
+    record { hears = record { taken = hears.taken; takes = hears.takes; bytes = hears.bytes; now = hears.now.0 }; end = end }
+seen_last me (Incomplete chosen missing) left left_then hears end =
+    record { hears = record { taken = hears.taken; takes = hears.takes; bytes = hears.bytes; now = hears.now.0 }; end = end }
 seen_last me (BadModule id want found) left left_then hears end = absurd (hears.now.1 (Wrong id want found) hears.now.0)
 seen_last me Unsettled left left_then hears end = absurd (hears.now.1 TooMany hears.now.0)
 
--- ---- which verdicts come, whether or not contents are told
+-- What is known at the end, where a stage in the bank has the places of the choice that stands.
+abbrev pub EndsLast : Bool → Geometry → List ℕ → Receiver → Verdict → List Heard → Type 0
+EndsLast in_bank g y me v heard = IsVerdict me heard v × IsOpen me heard × (in_bank ≡ true → Stores g y me heard)
 
-pub takes_last : (me : Receiver) (sections : List Heard) (v : Verdict) (left left_then : Option (List ℕ)) → IsVerdict me sections v → IsOpen me sections
-    → TakesBytes left left_then IsWithin → IsAtEnd left_then → VerdictTakes left left_then v
-takes_last me sections (Installed chosen) left left_then is undecided bytes end = absurd (undecided (Whole chosen is.0) is.1)
-takes_last me sections (Nothing level) left left_then is undecided bytes end = (bytes, end)
-takes_last me sections (Incomplete chosen missing) left left_then is undecided bytes end = (bytes, end)
-takes_last me sections (BadModule id want found) left left_then is undecided bytes end = absurd (undecided (Wrong id want found) is)
-takes_last me sections Unsettled left left_then is undecided bytes end = absurd (undecided TooMany is)
-
-pub takes_at : (me : Receiver) (sections : List Heard) (v : Verdict) (left left_then : Option (List ℕ)) → IsSeen me sections (Some v)
-    → TakesBytes left left_then ArePackets → VerdictTakes left left_then v
-takes_at me sections (Installed chosen) left left_then is bytes = bytes
-takes_at me sections (Nothing level) left left_then is bytes = absurd is
-takes_at me sections (Incomplete chosen missing) left left_then is bytes = absurd is
-takes_at me sections (BadModule id want found) left left_then is bytes = bytes
-takes_at me sections Unsettled left left_then is bytes = bytes
+pub ends_last : (in_bank : Bool) (me : Receiver) (v : Verdict) (left left_then : Option (List ℕ)) (g : Geometry) (x y : List ℕ) → HearsIn me left left_then IsWithin (EndsLast in_bank g y me v)
+    → IsAtEnd left_then → KeepsBoot g x y → EndsWith in_bank me left left_then g x y v
+ends_last in_bank me (Installed chosen) left left_then g x y hears end keeps = absurd (hears.now.1 (Whole chosen hears.now.0.0) hears.now.0.1)
+ends_last in_bank me (Nothing level) left left_then g x y hears end keeps =
+    (record { hears = record { taken = hears.taken; takes = hears.takes; bytes = hears.bytes; now = hears.now.0 }; end = end }, keeps)
+ends_last in_bank me (Incomplete chosen missing) left left_then g x y hears end keeps =
+    (record { hears = record { taken = hears.taken; takes = hears.takes; bytes = hears.bytes; now = (hears.now.0, hears.now.2) }; end = end }, keeps)
+ends_last in_bank me (BadModule id want found) left left_then g x y hears end keeps = absurd (hears.now.1 (Wrong id want found) hears.now.0)
+ends_last in_bank me Unsettled left left_then g x y hears end keeps = absurd (hears.now.1 TooMany hears.now.0)

@@ -1,9 +1,8 @@
 -- What the collector of a group stands for: the sections that the box heard, the newest first. What is staged is seen by the
 -- words of the stage, and what the flash holds by those of the flash.
-use Rattle.std.specs.Prelude.{◌≡◌, ℕ, ◌<◌, ◌≤◌, List, ◌∷◌, Some, is_some}
+use Rattle.std.specs.Prelude.{◌≡◌, ℕ, ◌<◌, ◌≤◌, List, ◌∷◌, ◌++◌, Some, is_some, IsTrue}
 use Rattle.flash_dev.specs.declared.device.Flash.{Ghosts as FlashGhosts}
-use Rattle.flash_bank.specs.Bank.{IsLent, current_of, geometry_of}
-use Rattle.flash_bank.specs.Layout.{bank_len}
+use Rattle.flash_bank.specs.Bank.{IsLent, current_of, len_of}
 use Rattle.flash_bank.specs.declared.bank.Bank.{Bank}
 use Rattle.flash_stage.specs.declared.stage.Stage.{Ghosts as StageGhosts}
 use Rattle.flash_stage.specs.Outline.{outline_of}
@@ -14,7 +13,7 @@ use Rattle.route_tables.specs.Values.{Receiver}
 use Rattle.ssu_route.specs.declared.change.Change.{Change}
 use Rattle.ssu_route.specs.declared.choice.Choice.{Choice}
 use Rattle.ssu_route.specs.Route.{Stands}
-use Rattle.ssu_route.specs.Windows.{IsChoice, beginnings, change_at, window}
+use Rattle.ssu_route.specs.Windows.{IsChoice, beginnings, change_at, is_one_too_many, window}
 use Rattle.ssu_loader.specs.declared.collector.Collector.{Collector}
 use Rattle.ssu_loader.specs.Decisions.{IsOpen}
 
@@ -50,10 +49,10 @@ pub record Knows {S : Type 0} (s : StageGhosts S) (me : Receiver) (heard : List 
 -- Bank and stage may go on with this flash. Nothing is decided by these sections, and the places that are staged are those that
 -- the window of the choice fills; where contents are told, each has the bytes of the first block that fills it.
 pub record Gathers {S F : Type 0} (s : StageGhosts S) (f : FlashGhosts F) (me : Receiver) (heard : List Heard) (c : Collector S) (flash : F) : Type 0 where
-  pub len : me.bank_len ≡ bank_len (geometry_of c.bank)
+  pub len : me.bank_len ≡ len_of c.bank
   pub runs : me.running ≡ (current_of c.bank).software
   pub lent : IsLent f.tells f.contents f.block_count f.block_len c.bank flash
-  pub made_for : s.most c.stage ≡ bank_len (geometry_of c.bank)
+  pub made_for : s.most c.stage ≡ len_of c.bank
   pub next_fits : (current_of c.bank).number < 4294967295
   pub knows : Knows s me heard c
   pub works : (choice : Choice) → IsChoice me heard choice → Works s f choice.plan c.stage c.bank flash
@@ -81,3 +80,16 @@ pub record IsUsableAt {S F : Type 0} (s : StageGhosts S) (f : FlashGhosts F) (ch
   pub item : Heard
   pub heard : List Heard
   pub ahead : IsAhead s f me item heard change c flash
+
+-- ---- one choice too many
+
+-- At one of these sections a choice too many would begin. The flash is as a collector may have left it that stands for the
+-- sections before it.
+pub record StopsBefore {S F : Type 0} (s : StageGhosts S) (f : FlashGhosts F) (me : Receiver) (heard : List Heard) (flash : F) : Type 0 where
+  pub later : List Heard
+  pub item : Heard
+  pub earlier : List Heard
+  pub parts : heard ≡ later ++ item ∷ earlier
+  pub too_many : IsTrue (is_one_too_many me (item ∷ earlier))
+  pub collector : Collector S
+  pub collects : Collects s f me earlier collector flash

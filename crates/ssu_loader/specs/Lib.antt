@@ -4,5 +4,7 @@ pub mod Collecting
 pub mod Leaving
 pub mod Loading
 pub mod Replays
+pub mod Replaying
 pub mod Faults
 pub mod Settling
+pub mod Storing

@@ -2,8 +2,7 @@
 use Rattle.std.specs.Prelude.{◌≡◌, ℕ, List, []}
 use Rattle.box_file.specs.declared.file.BoxFile.{BoxFile}
 use Rattle.flash_dev.specs.declared.device.Flash.{Ghosts as FlashGhosts}
-use Rattle.flash_bank.specs.Bank.{current_of, geometry_of}
-use Rattle.flash_bank.specs.Layout.{bank_len}
+use Rattle.flash_bank.specs.Bank.{current_of, len_of}
 use Rattle.flash_bank.specs.declared.bank.Bank.{Bank}
 use Rattle.flash_stage.specs.declared.stage.Stage.{Ghosts as StageGhosts}
 use Rattle.ts_section.specs.Hearing.{Hears}
@@ -20,7 +19,7 @@ bank_of loader = loader.collector.bank
 
 -- the box of this file, with the bank of the loader and the software that runs
 abbrev pub receiver_in : {S : Type 0} → BoxFile → Loader S → Receiver
-receiver_in file loader = receiver_of file (geometry_of (bank_of loader)) (current_of (bank_of loader)).software
+receiver_in file loader = receiver_of file (len_of (bank_of loader)) (current_of (bank_of loader)).software
 
 -- The loader took these packets, and no verdict was reached in them. It may go on with this flash.
 pub record Follows {S F : Type 0} (s : StageGhosts S) (f : FlashGhosts F) (me : Receiver) (ps : List (List ℕ)) (loader : Loader S) (flash : F) : Type 0 where
@@ -42,5 +41,5 @@ pub record IsUsable {S F : Type 0} (s : StageGhosts S) (f : FlashGhosts F) (load
 pub record IsFresh {S : Type 0} (s : StageGhosts S) (me : Receiver) (loader : Loader S) : Type 0 where
   pub hears : Hears loader.hearer (followed me [])
   pub stands : Stands me (heard_by me []) loader.collector.route
-  pub made_for : s.most loader.collector.stage ≡ bank_len (geometry_of (bank_of loader))
+  pub made_for : s.most loader.collector.stage ≡ len_of (bank_of loader)
   pub none : loader.collector.choices ≡ 0

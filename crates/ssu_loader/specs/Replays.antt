@@ -1,24 +1,22 @@
 -- What a replay took of its source, what came of it, and what it left in the flash.
-use Rattle.std.specs.Prelude.{◌≡◌, ◌⊎◌, ℕ, ◌+◌, ◌-◌, ◌*◌, ◌<◌, List, ◌++◌, length, reverse, slice_index, Option, Some}
-use Rattle.box_file.specs.declared.file.BoxFile.{BoxFile}
+use Rattle.std.specs.Prelude.{◌≡◌, ◌⊎◌, ℕ, Bool, true, ◌*◌, ◌<◌, List, ◌++◌, length, reverse, Option, Some}
 use Rattle.ssu_io.specs.Bytes.{Takes}
-use Rattle.ts_input.specs.Packets.{packets, IsAtEnd, IsOneMore, IsWithin}
+use Rattle.ts_input.specs.Packets.{packets, IsAtEnd, IsWithin}
 use Rattle.ts_section.specs.Events.{Heard}
-use Rattle.flash_dev.specs.declared.device.Flash.{Ghosts as FlashGhosts}
-use Rattle.flash_bank.specs.Layout.{Geometry, bank_len, bank_place, record_place}
-use Rattle.flash_bank.specs.Runs.{IsOutside}
-use Rattle.flash_bank.specs.Sound.{Boot, BootOf, IsCurrent, IsSound, Keeps, PrevOf, record_in}
+use Rattle.flash_bank.specs.Layout.{Geometry}
+use Rattle.flash_bank.specs.Leaving.{Installs, KeepsBoot}
+use Rattle.flash_bank.specs.Record.{next_record}
+use Rattle.flash_bank.specs.Sound.{Boot, BootOf}
 use Rattle.flash_bank.specs.declared.record.Record.{Record}
 use Rattle.ssu_answer.specs.declared.chosen.Chosen.{Chosen}
-use Rattle.ssu_compat.specs.declared.rule.SwId.{SwId}
 use Rattle.route_tables.specs.Values.{Receiver}
 use Rattle.ssu_route.specs.Queries.{heard_by}
-use Rattle.ssu_loader.specs.declared.fault.LoadFault.{LoadFault}
-use Rattle.ssu_loader.specs.declared.fault.LoadFault.TheVariants as load_fault
+use Rattle.ssu_route.specs.Windows.{beginnings}
 use Rattle.ssu_loader.specs.declared.verdict.Verdict.{Verdict}
-use Rattle.ssu_loader.specs.declared.verdict.Verdict.TheVariants.{Installed, Nothing, Incomplete}
+use Rattle.ssu_loader.specs.declared.verdict.Verdict.TheVariants.{Installed, Nothing, Incomplete, BadModule, Unsettled}
 use Rattle.ssu_loader.specs.Decisions.{IsOpen, Reaches, Whole}
-use Rattle.ssu_loader.specs.Verdicts.{IsReached, IsSeen, IsVerdict, receiver_of}
+use Rattle.ssu_loader.specs.Storing.{Stores, StoresBefore}
+use Rattle.ssu_loader.specs.Verdicts.{IsReached, IsSeen, IsVerdict}
 
 -- ---- what was taken
 
@@ -26,37 +24,13 @@ use Rattle.ssu_loader.specs.Verdicts.{IsReached, IsSeen, IsVerdict, receiver_of}
 unfoldable pub heard_in : Receiver → List ℕ → List Heard
 heard_in me bytes = heard_by me (reverse (packets bytes))
 
--- So many bytes were taken.
-pub record TakesBytes (left left_after : Option (List ℕ)) (Length : ℕ → Type 0) : Type 0 where
-  pub taken : List ℕ
-  pub takes : Takes left left_after taken
-  pub bytes : Length (length taken)
+-- The packets of these bytes carry this group whole, as this image, and that is the first thing that is decided.
+abbrev pub CarriesFirst : Receiver → List ℕ → Chosen → List ℕ → Type 0
+CarriesFirst me bytes chosen image = Reaches me (heard_in me bytes) (Whole chosen image)
 
--- the bytes of one packet or more, and of not more than the greatest number
-pub record ArePackets (n : ℕ) : Type 0 where
-  pub count : ℕ
-  pub within : count < 16777216
-  pub whole : n ≡ 188 * (count + 1)
-
-abbrev pub IsNone : ℕ → Type 0
-IsNone n = n ≡ 0
-
--- no packet, or one at which the flash failed
-abbrev pub IsNoneOrPackets : ℕ → Type 0
-IsNoneOrPackets n = (n ≡ 0) ⊎ ArePackets n
-
--- how many bytes were taken before each fault
-abbrev pub FaultTakes : Option (List ℕ) → Option (List ℕ) → LoadFault → Type 0
-FaultTakes left left_after load_fault.ReadFault = TakesBytes left left_after IsWithin
-FaultTakes left left_after load_fault.TooLong = TakesBytes left left_after IsOneMore
-FaultTakes left left_after load_fault.FlashFault = TakesBytes left left_after IsNoneOrPackets
-FaultTakes left left_after other = TakesBytes left left_after IsNone
-
--- how many bytes were taken up to each verdict
-abbrev pub VerdictTakes : Option (List ℕ) → Option (List ℕ) → Verdict → Type 0
-VerdictTakes left left_after (Nothing level) = TakesBytes left left_after IsWithin × IsAtEnd left_after
-VerdictTakes left left_after (Incomplete chosen count) = TakesBytes left left_after IsWithin × IsAtEnd left_after
-VerdictTakes left left_after other = TakesBytes left left_after ArePackets
+-- No choice of a group begins in the packets of these bytes.
+abbrev pub BeginsNone : Receiver → List ℕ → Type 0
+BeginsNone me bytes = beginnings me (heard_in me bytes) ≡ 0
 
 -- So many bytes were taken, and this holds of the sections that the box heard in their packets.
 pub record HearsIn (me : Receiver) (left left_after : Option (List ℕ)) (Length : ℕ → Type 0) (Now : List Heard → Type 0) : Type 0 where
@@ -83,22 +57,12 @@ pub record HearsToEnd (me : Receiver) (left left_after : Option (List ℕ)) (Now
   pub hears : HearsIn me left left_after IsWithin Now
   pub end : IsAtEnd left_after
 
--- Where a verdict comes: at the packet at which it is reached, or at the end of the input.
-abbrev pub ComesOf : Receiver → Option (List ℕ) → Option (List ℕ) → Verdict → Type 0
-ComesOf me left left_after (Nothing level) = HearsToEnd me left left_after (λ heard. IsVerdict me heard (Nothing level))
-ComesOf me left left_after (Incomplete chosen count) = HearsToEnd me left left_after (λ heard. IsVerdict me heard (Incomplete chosen count))
-ComesOf me left left_after other = HearsAtPacket me left left_after (λ heard. IsReached me heard other) (IsOpen me)
-
--- What a verdict says whether or not the flash tells its contents: which places were filled is known then, and not with
--- which bytes.
+-- Where a verdict comes, at the packet at which it is reached or at the end of the input, and what is known of it whether or not
+-- the flash tells what it holds: which places were filled, and not with which bytes.
 abbrev pub ComesSeen : Receiver → Option (List ℕ) → Option (List ℕ) → Verdict → Type 0
 ComesSeen me left left_after (Nothing level) = HearsToEnd me left left_after (λ heard. IsVerdict me heard (Nothing level))
 ComesSeen me left left_after (Incomplete chosen count) = HearsToEnd me left left_after (λ heard. IsVerdict me heard (Incomplete chosen count))
 ComesSeen me left left_after verdict = HearsAtPacket me left left_after (λ heard. IsSeen me heard (Some verdict)) (IsOpen me)
-
--- the same of a box that runs some software
-abbrev pub IsSeenBy : BoxFile → Geometry → Option (List ℕ) → Option (List ℕ) → Verdict → Type 0
-IsSeenBy file g left left_after verdict = (running : SwId) × ComesSeen (receiver_of file g running) left left_after verdict
 
 -- So many bytes were taken, and no verdict is reached in their packets.
 abbrev pub ReachesNone : Receiver → Option (List ℕ) → Option (List ℕ) → (ℕ → Type 0) → Type 0
@@ -110,56 +74,32 @@ BreaksAtPacket me left left_after = HearsAtPacket me left left_after (λ heard. 
 
 -- ---- what was left
 
--- the number and the length of the blocks of a flash
-abbrev pub blocks_of : {F : Type 0} → FlashGhosts F → F → Geometry
-blocks_of f flash = record { blocks = f.block_count flash; block_len = f.block_len flash }
-
--- y is x but in the record block and the bank that boot does not take
-pub record SameButSpare (g : Geometry) (x y : List ℕ) : Type 0 where
-  pub size : length y ≡ length x
-  pub same : (block k : ℕ) → IsCurrent g x block → IsOutside (record_place g (1 - block)) g.block_len k
-      → IsOutside (bank_place g (1 - (record_in g x block).bank)) (bank_len g) k → slice_index y k ≡ slice_index x k
-
--- Boot takes of y what it took of x, and what it took before is as in x or is there no longer.
-pub record KeepsBoot (g : Geometry) (x y : List ℕ) : Type 0 where
-  pub keeps : Keeps g x y
-  pub outside : SameButSpare g x y
-
 -- the record that follows this one, for a group that was chosen
 abbrev pub record_after : Record → Chosen → Record
-record_after former chosen = record {
-  number = former.number + 1;
-  bank = 1 - former.bank;
-  length = chosen.bytes;
-  software = chosen.software;
-  group = chosen.group;
-}
+record_after former chosen = next_record former chosen.bytes chosen.software chosen.group
 
--- Boot takes of y this image of the group, under the record that follows the one that it took of x; and before it took what
--- it took of x.
-pub record Installs (g : Geometry) (chosen : Chosen) (image x y : List ℕ) : Type 0 where
-  pub sound : IsSound g y
-  pub boot : (b : Boot) → BootOf g x b → BootOf g y (record { head = record_after b.head chosen; image = image })
-  pub prev : (b : Boot) → BootOf g x b → PrevOf g y b
-  pub no_other : (b : Boot) → PrevOf g y b → BootOf g x b
-  pub outside : SameButSpare g x y
-
--- The packets that were taken carry this group whole, not without the last of them, and its image is installed.
+-- The packets that were taken carry this group whole, not without the last of them, and y is x with its image installed, under the
+-- record that follows the one that boot takes of x.
 pub record TakesAndInstalls (me : Receiver) (left left_after : Option (List ℕ)) (g : Geometry) (x y : List ℕ) (chosen : Chosen) : Type 0 where
   pub image : List ℕ
   pub hears : HearsAtPacket me left left_after (λ heard. Reaches me heard (Whole chosen image)) (IsOpen me)
-  pub installs : Installs g chosen image x y
+  pub installs : (former : Boot) → BootOf g x former → Installs g (record_after former.head chosen) image x y
 
 -- What may be left of x: boot takes what it took, or a group that the packets taken carry whole.
 abbrev pub ReplayLeaves : Receiver → Option (List ℕ) → Option (List ℕ) → Geometry → List ℕ → List ℕ → Type 0
 ReplayLeaves me left left_after g x y = KeepsBoot g x y ⊎ ((chosen : Chosen) × TakesAndInstalls me left left_after g x y chosen)
 
--- A verdict came, and x became y.
-abbrev pub EndsWith : Receiver → Option (List ℕ) → Option (List ℕ) → Geometry → List ℕ → List ℕ → Verdict → Type 0
-EndsWith me left left_after g x y (Installed chosen) = TakesAndInstalls me left left_after g x y chosen
-EndsWith me left left_after g x y other = KeepsBoot g x y
-
--- The group is installed, and boot takes this image of it.
-abbrev pub IsInstalled : Geometry → List ℕ → Boot → Chosen → List ℕ → Verdict → Type 0
-IsInstalled g y before chosen image verdict =
-    (verdict ≡ Installed chosen) × BootOf g y (record { head = record_after before.head chosen; image = image })
+-- The verdict of the packets that were taken, which came there, and x became y. Where the places of a group are staged in the
+-- bank, those of a choice that stands at the end are there, and those of the sixteenth at one too many.
+abbrev pub EndsWith : Bool → Receiver → Option (List ℕ) → Option (List ℕ) → Geometry → List ℕ → List ℕ → Verdict → Type 0
+EndsWith in_bank me left left_after g x y (Installed chosen) = TakesAndInstalls me left left_after g x y chosen
+EndsWith in_bank me left left_after g x y (Nothing level) =
+    HearsToEnd me left left_after (λ heard. IsVerdict me heard (Nothing level)) × KeepsBoot g x y
+EndsWith in_bank me left left_after g x y (Incomplete chosen count) =
+    HearsToEnd me left left_after
+    (λ heard. IsVerdict me heard (Incomplete chosen count) × (in_bank ≡ true → Stores g y me heard)) × KeepsBoot g x y
+EndsWith in_bank me left left_after g x y (BadModule id want found) =
+    HearsAtPacket me left left_after (λ heard. IsReached me heard (BadModule id want found)) (IsOpen me) × KeepsBoot g x y
+EndsWith in_bank me left left_after g x y Unsettled =
+    HearsAtPacket me left left_after
+    (λ heard. IsReached me heard Unsettled × (in_bank ≡ true → StoresBefore g y me heard)) (IsOpen me) × KeepsBoot g x y

@@ -2,18 +2,20 @@
 use Rattle.std.specs.Prelude.{◌≡◌, ◌⊎◌, ℕ, List, Bool, not, Some, false}
 use Rattle.ts_crc.specs.Crc.{crc_of}
 use Rattle.flash_dev.specs.declared.device.Flash.{Ghosts as FlashGhosts}
-use Rattle.flash_bank.specs.Bank.{next_record}
+use Rattle.flash_bank.specs.Bank.{current_of, geometry_of}
+use Rattle.flash_bank.specs.Leaving.{Installs, KeepsBoot}
+use Rattle.flash_bank.specs.Record.{next_record}
 use Rattle.flash_bank.specs.Runs.{OnlyReads}
 use Rattle.flash_bank.specs.declared.bank.Bank.{Bank}
 use Rattle.flash_stage.specs.declared.stage.Stage.{Ghosts as StageGhosts}
-use Rattle.flash_stage.specs.Leaving.{Installs, SameBank, StageLeaves}
+use Rattle.flash_stage.specs.Leaving.{SameBank}
 use Rattle.ssu_group.specs.declared.module_plan.ModulePlan.{ModulePlan}
-use Rattle.ssu_group.specs.Carried.{CarriesWhole, carried_image, is_right, missing_places, module_bytes, wrong_module}
+use Rattle.ssu_group.specs.Carried.{CarriesWhole, is_right, module_bytes}
 use Rattle.ssu_route.specs.declared.choice.Choice.{Choice}
 use Rattle.ssu_loader.specs.declared.wrong.Wrong.{Wrong}
 use Rattle.ssu_loader.specs.declared.verdict.Verdict.{Verdict}
 use Rattle.ssu_loader.specs.declared.verdict.Verdict.TheVariants.{Installed, BadModule}
-use Rattle.ssu_loader.specs.Decisions.{chosen_of}
+use Rattle.ssu_loader.specs.Decisions.{HasWrong, chosen_of}
 
 -- ---- reading what is staged
 
@@ -42,29 +44,14 @@ pub record IsWrongOf (image : List ℕ) (m : ModulePlan) (wrong : Wrong) : Type 
 pub record InstallsWhole (choice : Choice) (window : List (List ℕ)) (bank : Bank) (x y : List ℕ) : Type 0 where
   pub image : List ℕ
   pub whole : CarriesWhole choice.plan window image
-  pub installs : Installs bank (next_record bank choice.plan.total choice.software choice.group) image x y
-
--- The window fills all places, and a module is wrong.
-pub record HasWrong (choice : Choice) (window : List (List ℕ)) (id want found : ℕ) : Type 0 where
-  pub filled : missing_places choice.plan window ≡ 0
-  pub module_plan : ModulePlan
-  pub first : wrong_module choice.plan.modules.items (carried_image choice.plan window) ≡ Some module_plan
-  pub own_id : id ≡ module_plan.id
-  pub wanted : module_plan.crc ≡ Some want
-  pub has : found ≡ crc_of (module_bytes (carried_image choice.plan window) module_plan)
+  pub installs : Installs (geometry_of bank) (next_record (current_of bank) choice.plan.total choice.software choice.group) image x y
 
 -- the verdict on the group of the choice, and what became of x
 abbrev pub Settles : Choice → List (List ℕ) → Bank → List ℕ → List ℕ → Verdict → Type 0
 Settles choice window bank x y (Installed chosen) = (chosen ≡ chosen_of choice) × InstallsWhole choice window bank x y
-Settles choice window bank x y (BadModule id want found) = HasWrong choice window id want found × StageLeaves bank x y
+Settles choice window bank x y (BadModule id want found) = HasWrong choice.plan window id want found × KeepsBoot (geometry_of bank) x y
 Settles choice window bank x y other = ⊥
-
--- the verdict is one on the group
-abbrev pub IsOfGroup : Verdict → Type 0
-IsOfGroup (Installed chosen) = Unit {0}
-IsOfGroup (BadModule id want found) = Unit {0}
-IsOfGroup other = ⊥
 
 -- what may be left of x meanwhile
 abbrev pub SettlingLeaves : Choice → List (List ℕ) → Bank → List ℕ → List ℕ → Type 0
-SettlingLeaves choice window bank x y = StageLeaves bank x y ⊎ InstallsWhole choice window bank x y
+SettlingLeaves choice window bank x y = KeepsBoot (geometry_of bank) x y ⊎ InstallsWhole choice window bank x y

@@ -1,10 +1,11 @@
 -- The verdict over the sections that a box heard. Lists of sections have the newest first.
-use Rattle.std.specs.Prelude.{◌≡◌, ◌⊎◌, ℕ, List, Option, Some, None}
+use Rattle.std.specs.Prelude.{◌≡◌, ◌≢◌, ℕ, Contains, List, ◌∷◌, ◌++◌, Option, Some, None}
 use Rattle.box_file.specs.declared.file.BoxFile.{BoxFile}
-use Rattle.flash_bank.specs.Layout.{Geometry, bank_len}
 use Rattle.ts_section.specs.Events.{Heard}
 use Rattle.ssu_answer.specs.declared.chosen.Chosen.{Chosen}
 use Rattle.ssu_compat.specs.declared.rule.SwId.{SwId}
+use Rattle.ssu_group.specs.declared.group_plan.GroupPlan.{GroupPlan}
+use Rattle.ssu_group.specs.declared.module_plan.ModulePlan.{ModulePlan}
 use Rattle.ssu_group.specs.Carried.{missing_places}
 use Rattle.route_tables.specs.Values.{Receiver}
 use Rattle.ssu_route.specs.declared.choice.Choice.{Choice}
@@ -14,9 +15,9 @@ use Rattle.ssu_loader.specs.declared.verdict.Verdict.{Verdict}
 use Rattle.ssu_loader.specs.declared.verdict.Verdict.TheVariants.{Installed, Nothing, Incomplete, BadModule, Unsettled}
 use Rattle.ssu_loader.specs.Decisions.{IsStanding, IsOpen, Reaches, Whole, Wrong, TooMany, chosen_of}
 
--- The box of this file, which hears with a flash of these blocks while this software runs.
-abbrev pub receiver_of : BoxFile → Geometry → SwId → Receiver
-receiver_of file g running = record { file = file; bank_len = bank_len g; running = running }
+-- The box of this file with a bank of this length, while this software runs.
+abbrev pub receiver_of : BoxFile → ℕ → SwId → Receiver
+receiver_of file bank_len running = record { file = file; bank_len = bank_len; running = running }
 
 -- A choice stands, and so many of its places are not filled.
 pub record IsIncomplete (me : Receiver) (heard : List Heard) (chosen : Chosen) (count : ℕ) : Type 0 where
@@ -33,17 +34,37 @@ IsVerdict me heard (Incomplete chosen count) = IsOpen me heard × IsIncomplete m
 IsVerdict me heard (BadModule id want found) = Reaches me heard (Wrong id want found)
 IsVerdict me heard Unsettled = Reaches me heard TooMany
 
--- All places of the group of the choice were filled, and that was the first decision.
-abbrev pub IsSettled : Receiver → List Heard → Type 0
-IsSettled me heard =
-    ((chosen : Chosen) × (image : List ℕ) × Reaches me heard (Whole chosen image)) ⊎ ((id : ℕ) × (want : ℕ) × (found : ℕ) × Reaches me heard (Wrong id want found))
+-- The first decision: nothing is decided before this section of all that were heard, and with it the window of this choice,
+-- which stands, fills all places of its group.
+pub record IsFilled (me : Receiver) (heard : List Heard) (choice : Choice) : Type 0 where
+  pub later : List Heard
+  pub item : Heard
+  pub earlier : List Heard
+  pub parts : heard ≡ later ++ item ∷ earlier
+  pub undecided : IsOpen me earlier
+  pub standing : IsStanding me (item ∷ earlier) choice
+  pub filled : missing_places choice.plan (window me (item ∷ earlier)) ≡ 0
 
--- what an answer says of the sections whether or not the flash tells its contents: the places are known then, and not their
--- bytes
+-- A module of the plan with this id and this CRC in its descriptor, which is not the CRC that its bytes were found to have.
+pub record DiffersFrom (plan : GroupPlan) (id want found : ℕ) : Type 0 where
+  pub module_plan : ModulePlan
+  pub own : Contains plan.modules.items module_plan
+  pub own_id : id ≡ module_plan.id
+  pub wanted : module_plan.crc ≡ Some want
+  pub differs : found ≢ want
+
+-- What an answer says of the group of a choice that is filled, whether or not the flash tells what it holds.
+abbrev pub IsOn : Choice → Verdict → Type 0
+IsOn choice (Installed chosen) = chosen ≡ chosen_of choice
+IsOn choice (BadModule id want found) = DiffersFrom choice.plan id want found
+IsOn choice other = ⊥
+
+-- What an answer says of the sections whether or not the flash tells what it holds: which group it is on, that all its places
+-- are filled, and not with which bytes.
 abbrev pub IsSeen : Receiver → List Heard → Option Verdict → Type 0
 IsSeen me heard None = IsOpen me heard
-IsSeen me heard (Some (Installed chosen)) = IsSettled me heard
-IsSeen me heard (Some (BadModule id want found)) = IsSettled me heard
+IsSeen me heard (Some (Installed chosen)) = (choice : Choice) × (IsFilled me heard choice × IsOn choice (Installed chosen))
+IsSeen me heard (Some (BadModule id want found)) = (choice : Choice) × (IsFilled me heard choice × IsOn choice (BadModule id want found))
 IsSeen me heard (Some Unsettled) = Reaches me heard TooMany
 IsSeen me heard (Some other) = ⊥
 

@@ -4,9 +4,11 @@ ghost use Rattle.std.specs.Prelude.{◌≡◌, ◌∷◌, List, OnOk, ℕ};
 ghost use Rattle.std.specs.Option.{option_map};
 ghost use Rattle.dsmcc_msg.specs.Block.{ddb};
 ghost use Rattle.dsmcc_msg.specs.View.{ddb_view};
+ghost use Rattle.flash_bank.specs.Bank.{geometry_of};
+ghost use Rattle.flash_bank.specs.Leaving.{KeepsBoot};
 ghost use Rattle.section_form.specs.Section.{IsRight};
 ghost use Rattle.flash_dev.specs.Moments.{LeavesOnly};
-ghost use Rattle.flash_stage.specs.Leaving.{SameBank, StageLeaves};
+ghost use Rattle.flash_stage.specs.Leaving.{SameBank};
 ghost use Rattle.ssu_io.specs.Faults.{HasCause};
 ghost use Rattle.ssu_loader.specs.Collecting.{HasFilled, HoldsFilling, Works};
 
@@ -40,9 +42,9 @@ pub(crate) fn take_block<S: Stage, F: Flash>(
     ensures bytes { F.tells → OnOk result ((window : List (List ℕ)) → HasFilled S.Stage plan.now window stage.old
         → HoldsFilling S.Stage plan.now window stage.old bank.old (F.contents flash.old)
         → HoldsFilling S.Stage plan.now (section.now ∷ window) stage.new bank.new (F.contents flash.new)) }
-    ensures held { F.tells → StageLeaves bank.old (F.contents flash.old) (F.contents flash.new) }
+    ensures held { F.tells → KeepsBoot (geometry_of bank.old) (F.contents flash.old) (F.contents flash.new) }
     ensures left { F.tells → LeavesOnly F.moment F.left_since flash.old flash.new
-        (StageLeaves bank.old (F.contents flash.old)) }
+        (KeepsBoot (geometry_of bank.old) (F.contents flash.old)) }
     ensures same_bank { SameBank bank.old bank.new }
     ensures most { S.most stage.new ≡ S.most stage.old }
     ensures blocks { F.block_count flash.new ≡ F.block_count flash.old }

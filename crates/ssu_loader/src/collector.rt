@@ -11,7 +11,7 @@ ghost use Rattle.route_tables.specs.Next.{heard_on};
 ghost use Rattle.route_tables.specs.Values.{Receiver};
 ghost use Rattle.ssu_route.specs.declared.change.Change.TheVariants as change;
 ghost use Rattle.ssu_route.specs.Route.{Stands};
-ghost use Rattle.ssu_loader.specs.Leaving.{GoesOn, SectionsLeave};
+ghost use Rattle.ssu_loader.specs.Leaving.{GoesOn, SectionsLeave, UnlessInstalled};
 ghost use Rattle.ssu_route.specs.Windows.{beginnings, is_one_too_many};
 ghost use Rattle.ssu_loader.specs.declared.verdict.Verdict.TheVariants as verdict;
 ghost use Rattle.ssu_loader.specs.Verdicts.{IsSeen, IsVerdict};
@@ -67,7 +67,7 @@ impl<S: Stage> Collector<S> {
             → (result ≡ Ok (Some verdict.Unsettled)) × (flash.new ≡ flash.old) }
         ensures untouched { (me : Receiver) (heard : List Heard) → Collects S.Stage F.Flash me heard self.old flash.old
             → beginnings me (heard_on pid section.now ∷ heard) ≡ 0 → flash.new ≡ flash.old }
-        ensures same_bank { IfOk result (λ answer. IfNone answer (SameBank self.old.bank self.new.bank)) }
+        ensures same_bank { UnlessInstalled result (SameBank self.old.bank self.new.bank) }
         ensures lent { OnOk result (IsLent F.tells F.contents F.block_count F.block_len self.new.bank flash.new) }
         ensures geometry { geometry_of self.new.bank ≡ geometry_of self.old.bank }
         ensures blocks { F.block_count flash.new ≡ F.block_count flash.old }
@@ -106,7 +106,7 @@ impl<S: Stage> Collector<S> {
             → SectionsLeave me (item ∷ heard) self.old.bank (F.contents flash.old) (F.contents flash.new) }
         ensures left { F.tells → (me : Receiver) (item : Heard) (heard : List Heard) → IsAhead S.Stage F.Flash me item heard change.Chosen self.old flash.old
             → LeavesOnly F.moment F.left_since flash.old flash.new (SectionsLeave me (item ∷ heard) self.old.bank (F.contents flash.old)) }
-        ensures same_bank { IfOk result (λ answer. IfNone answer (SameBank self.old.bank self.new.bank)) }
+        ensures same_bank { UnlessInstalled result (SameBank self.old.bank self.new.bank) }
         ensures too_many { (me : Receiver) (item : Heard) (heard : List Heard) → IsAhead S.Stage F.Flash me item heard change.Chosen self.old flash.old
             → IsTrue (is_one_too_many me (item ∷ heard)) → (result ≡ Ok (Some verdict.Unsettled)) × (flash.new ≡ flash.old) }
         ensures lent { OnOk result (IsLent F.tells F.contents F.block_count F.block_len self.new.bank flash.new) }
@@ -153,7 +153,7 @@ impl<S: Stage> Collector<S> {
         ensures untouched { (me : Receiver) (heard : List Heard)
             → IsAhead S.Stage F.Flash me (heard_on pid section.now) heard change.Same self.old flash.old
             → beginnings me (heard_on pid section.now ∷ heard) ≡ 0 → flash.new ≡ flash.old }
-        ensures same_bank { IfOk result (λ answer. IfNone answer (SameBank self.old.bank self.new.bank)) }
+        ensures same_bank { UnlessInstalled result (SameBank self.old.bank self.new.bank) }
         ensures lent { OnOk result (IsLent F.tells F.contents F.block_count F.block_len self.new.bank flash.new) }
         ensures geometry { geometry_of self.new.bank ≡ geometry_of self.old.bank }
         ensures blocks { F.block_count flash.new ≡ F.block_count flash.old }

@@ -27,7 +27,7 @@ pub enum LoadFault {
     /// The source failed.
     #[error("the read failed")]
     ReadFault,
-    /// More than 16,777,216 packets came.
+    /// A byte came behind 16,777,216 packets.
     #[error("the input is too long")]
     TooLong,
 }

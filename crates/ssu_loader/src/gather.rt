@@ -3,13 +3,15 @@
 ghost use Rattle.std.specs.Prelude.{◌≡◌, ◌∷◌, ◌<◌, ◌≤◌, List, IfNone, IfOk, IfSome, OnOk, [], ℕ};
 ghost use Rattle.section_form.specs.Section.{IsRight};
 ghost use Rattle.flash_dev.specs.Moments.{LeavesOnly};
-ghost use Rattle.flash_bank.specs.Bank.{IsLent, current_of, geometry_of};
-ghost use Rattle.flash_bank.specs.Layout.{bank_len};
-ghost use Rattle.flash_stage.specs.Leaving.{SameBank, StageLeaves};
+ghost use Rattle.flash_bank.specs.Bank.{IsLent, current_of, geometry_of, len_of};
+ghost use Rattle.flash_bank.specs.Leaving.{KeepsBoot};
+ghost use Rattle.flash_stage.specs.Leaving.{SameBank};
 ghost use Rattle.ssu_group.specs.Carried.{missing_places};
 ghost use Rattle.ssu_io.specs.Faults.{HasCause};
 ghost use Rattle.ssu_loader.specs.Collecting.{HasFilled, HoldsFilling, Works};
-ghost use Rattle.ssu_loader.specs.Settling.{IsOfGroup, Settles, SettlingLeaves};
+ghost use Rattle.ssu_loader.specs.Leaving.{UnlessInstalled};
+ghost use Rattle.ssu_loader.specs.Settling.{Settles, SettlingLeaves};
+ghost use Rattle.ssu_loader.specs.Verdicts.{IsOn};
 
 use crate::blocks::take_block;
 use crate::settle::settle;
@@ -28,16 +30,16 @@ pub(crate) fn start<S: Stage, F: Flash>(
     plan: &GroupPlan,
 ) -> Result<Option<Verdict>, FlashFault>
     requires lent { IsLent F.tells F.contents F.block_count F.block_len bank.old flash.old }
-    requires made_for { S.most stage.old ≡ bank_len (geometry_of bank.old) }
-    requires inside { plan.now.total ≤ bank_len (geometry_of bank.old) }
+    requires made_for { S.most stage.old ≡ len_of bank.old }
+    requires inside { plan.now.total ≤ len_of bank.old }
     requires next_fits { (current_of bank.old).number < 4294967295 }
     ensures none { IfOk result (λ answer. IfSome answer (λ verdict. ⊥)) }
     ensures works { IfOk result (λ answer. Works S.Stage F.Flash plan.now stage.new bank.new flash.new) }
     ensures empty { IfOk result (λ answer. HasFilled S.Stage plan.now [] stage.new) }
     ensures bytes { F.tells → IfOk result (λ answer. HoldsFilling S.Stage plan.now [] stage.new bank.new (F.contents flash.new)) }
-    ensures held { F.tells → StageLeaves bank.old (F.contents flash.old) (F.contents flash.new) }
+    ensures held { F.tells → KeepsBoot (geometry_of bank.old) (F.contents flash.old) (F.contents flash.new) }
     ensures left { F.tells → LeavesOnly F.moment F.left_since flash.old flash.new
-        (StageLeaves bank.old (F.contents flash.old)) }
+        (KeepsBoot (geometry_of bank.old) (F.contents flash.old)) }
     ensures same_bank { SameBank bank.old bank.new }
     ensures most { S.most stage.new ≡ S.most stage.old }
     ensures blocks { F.block_count flash.new ≡ F.block_count flash.old }
@@ -63,11 +65,11 @@ pub(crate) fn gather<S: Stage, F: Flash>(
         → IfOk result (λ answer. IfNone answer (HasFilled S.Stage choice.now.plan (section.now ∷ window) stage.new
         × (1 ≤ missing_places choice.now.plan (section.now ∷ window)))) }
     ensures whole { (window : List (List ℕ)) → HasFilled S.Stage choice.now.plan window stage.old
-        → IfOk result (λ answer. IfSome answer (λ verdict. IsOfGroup verdict × (missing_places choice.now.plan (section.now ∷ window) ≡ 0))) }
+        → IfOk result (λ answer. IfSome answer (λ verdict. IsOn choice.now verdict × (missing_places choice.now.plan (section.now ∷ window) ≡ 0))) }
     ensures bytes { F.tells → (window : List (List ℕ)) → HasFilled S.Stage choice.now.plan window stage.old
         → HoldsFilling S.Stage choice.now.plan window stage.old bank.old (F.contents flash.old)
         → IfOk result (λ answer. IfNone answer (HoldsFilling S.Stage choice.now.plan (section.now ∷ window) stage.new bank.new (F.contents flash.new))) }
-    ensures kept { F.tells → IfOk result (λ answer. IfNone answer (StageLeaves bank.old (F.contents flash.old) (F.contents flash.new))) }
+    ensures kept { F.tells → IfOk result (λ answer. IfNone answer (KeepsBoot (geometry_of bank.old) (F.contents flash.old) (F.contents flash.new))) }
     ensures settled { F.tells → (window : List (List ℕ)) → HasFilled S.Stage choice.now.plan window stage.old
         → HoldsFilling S.Stage choice.now.plan window stage.old bank.old (F.contents flash.old)
         → IfOk result (λ answer. IfSome answer (Settles choice.now (section.now ∷ window) bank.old (F.contents flash.old) (F.contents flash.new))) }
@@ -78,7 +80,7 @@ pub(crate) fn gather<S: Stage, F: Flash>(
         → HoldsFilling S.Stage choice.now.plan window stage.old bank.old (F.contents flash.old)
         → LeavesOnly F.moment F.left_since flash.old flash.new
         (SettlingLeaves choice.now (section.now ∷ window) bank.old (F.contents flash.old)) }
-    ensures same_bank { IfOk result (λ answer. IfNone answer (SameBank bank.old bank.new)) }
+    ensures same_bank { UnlessInstalled result (SameBank bank.old bank.new) }
     ensures most { IfOk result (λ answer. IfNone answer (S.most stage.new ≡ S.most stage.old)) }
     ensures lent { OnOk result (IsLent F.tells F.contents F.block_count F.block_len bank.new flash.new) }
     ensures geometry { geometry_of bank.new ≡ geometry_of bank.old }

@@ -5,13 +5,12 @@ ghost use Rattle.flash_bank.specs.Bank.{IsLent, geometry_of};
 ghost use Rattle.flash_dev.specs.Moments.{LeavesOnly};
 ghost use Rattle.flash_stage.specs.Leaving.{SameBank};
 ghost use Rattle.ssu_io.specs.Faults.{HasCause};
-ghost use Rattle.ts_packet.specs.Packet.{pid_of};
 ghost use Rattle.ts_section.specs.Events.{Heard};
 ghost use Rattle.route_tables.specs.Values.{Receiver};
 ghost use Rattle.ssu_route.specs.Queries.{after_all};
-ghost use Rattle.ssu_loader.specs.Collecting.{Collects, IsUsable};
+ghost use Rattle.ssu_loader.specs.Collecting.{Collects, IsUsable, StopsBefore};
 ghost use Rattle.ssu_route.specs.Windows.{beginnings};
-ghost use Rattle.ssu_loader.specs.Leaving.{GoesOn, SectionsLeave};
+ghost use Rattle.ssu_loader.specs.Leaving.{GoesOn, IfUnsettled, SectionsLeave, UnlessInstalled};
 ghost use Rattle.ssu_loader.specs.Verdicts.{IsSeen};
 
 use crate::collector::Collector;
@@ -19,15 +18,8 @@ use crate::verdict::Verdict;
 use flash_bank::FlashFault;
 use flash_dev::Flash;
 use flash_stage::Stage;
-use ts_packet::{Packet, Pid};
+use ts_packet::Pid;
 use ts_section::SectionOut;
-
-/// The PID that a packet names.
-pub(crate) fn pid_in(packet: &Packet) -> Pid
-    ensures { result ≡ pid_of packet.now }
-{
-    Pid::new(packet[1] as u16 % 32 * 256 + packet[2] as u16).unwrap_or_default()
-}
 
 /// Hears the sections in their order, on this PID, up to a verdict.
 pub(crate) fn hear_each<S: Stage, F: Flash>(
@@ -50,7 +42,9 @@ pub(crate) fn hear_each<S: Stage, F: Flash>(
         (SectionsLeave me (after_all pid each.now heard) collector.old.bank (F.contents flash.old)) }
     ensures untouched { (me : Receiver) (heard : List Heard) → Collects S.Stage F.Flash me heard collector.old flash.old
         → beginnings me (after_all pid each.now heard) ≡ 0 → flash.new ≡ flash.old }
-    ensures same_bank { IfOk result (λ answer. IfNone answer (SameBank collector.old.bank collector.new.bank)) }
+    ensures too_many { (me : Receiver) (heard : List Heard) → Collects S.Stage F.Flash me heard collector.old flash.old
+        → IfOk result (λ answer. IfUnsettled answer (StopsBefore S.Stage F.Flash me (after_all pid each.now heard) flash.new)) }
+    ensures same_bank { UnlessInstalled result (SameBank collector.old.bank collector.new.bank) }
     ensures lent { OnOk result (IsLent F.tells F.contents F.block_count F.block_len collector.new.bank flash.new) }
     ensures geometry { geometry_of collector.new.bank ≡ geometry_of collector.old.bank }
     ensures blocks { F.block_count flash.new ≡ F.block_count flash.old }

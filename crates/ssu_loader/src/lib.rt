@@ -7,12 +7,8 @@ mod collector;
 mod fault;
 mod gather;
 mod hearing;
-#[cfg(test)]
-mod install_tests;
 mod laws;
 mod loader;
-#[cfg(test)]
-mod replay_tests;
 mod replaying;
 mod settle;
 mod verdict;

@@ -1,9 +1,9 @@
 //! The loader, packet by packet.
 
-ghost use Rattle.std.specs.Prelude.{◌≡◌, ◌↔◌, ◌≤◌, ◌∷◌, [], ℕ, List, IfErr, IfNone, IfOk, IsErrOf, Ok, OnOk, Some};
+ghost use Rattle.std.specs.Prelude.{◌≡◌, ◌↔◌, ◌≤◌, ◌∷◌, [], ℕ, List, IfErr, IfNone, IfOk, IsErrOf, Ok, OnOk, Some, true};
 ghost use Rattle.flash_dev.specs.Moments.{LeavesOnly};
 ghost use Rattle.flash_bank.specs.Bank.{IsLent, geometry_of};
-ghost use Rattle.flash_bank.specs.Layout.{IsInLimits};
+ghost use Rattle.flash_bank.specs.Layout.{IsInLimits, blocks_of};
 ghost use Rattle.flash_bank.specs.Runs.{OnlyReads};
 ghost use Rattle.flash_bank.specs.Sound.{IsSound, IsWorn};
 ghost use Rattle.flash_stage.specs.Leaving.{SameBank};
@@ -11,18 +11,19 @@ ghost use Rattle.ssu_io.specs.Faults.{HasCause, Rose};
 ghost use Rattle.route_tables.specs.Values.{Receiver};
 ghost use Rattle.ssu_route.specs.Queries.{heard_by};
 ghost use Rattle.ssu_answer.specs.declared.chosen.Chosen.{Chosen};
+ghost use Rattle.ssu_loader.specs.Collecting.{StopsBefore};
 ghost use Rattle.ssu_loader.specs.Decisions.{Reaches, Whole};
 ghost use Rattle.ssu_loader.specs.declared.fault.LoadFault.TheVariants as load_fault;
 ghost use Rattle.ssu_loader.specs.declared.verdict.Verdict.TheVariants as verdict;
 ghost use Rattle.ssu_loader.specs.Faults.{IsOfOpening, WhereInLimits, WhereNotWorn, WhereSound};
-ghost use Rattle.ssu_loader.specs.Leaving.{GoesOn, SectionsLeave};
-ghost use Rattle.ssu_loader.specs.Replays.{blocks_of};
+ghost use Rattle.ssu_loader.specs.Leaving.{GoesOn, IfUnsettled, SectionsLeave, UnlessInstalled};
+ghost use Rattle.ssu_loader.specs.Storing.{Stores};
 ghost use Rattle.ssu_route.specs.Windows.{beginnings};
 ghost use Rattle.ssu_loader.specs.Verdicts.{IsSeen, IsVerdict};
 
 use crate::collector::Collector;
 use crate::fault::LoadFault;
-use crate::hearing::{hear_each, pid_in};
+use crate::hearing::hear_each;
 use crate::verdict::Verdict;
 use box_file::BoxFile;
 use flash_bank::{Bank, FlashFault};
@@ -30,7 +31,7 @@ use flash_dev::Flash;
 use flash_stage::Stage;
 use ssu_route::Route;
 use std::alloc::Global;
-use ts_packet::Packet;
+use ts_packet::{Packet, pid_of};
 use ts_section::{Hearer, SectionOut};
 
 /// A set-top box that waits for an update. It keeps no packet and no section.
@@ -45,6 +46,7 @@ impl<S: Stage> Loader<S> {
     ghost use Rattle.ssu_loader.specs.Loading.{Follows, IsFresh, IsUsable, KnowsPackets, bank_of, receiver_in};
 
     /// The box of this file, before the first packet. All memory of a replay is taken here, and the flash is not changed.
+    #[inline(never)]
     pub fn open<F: Flash>(
         alloc: Global,
         me: &BoxFile,
@@ -104,7 +106,14 @@ impl<S: Stage> Loader<S> {
         // Before any choice began, the flash is not called.
         ensures untouched { (me : Receiver) (ps : List (List ℕ)) → Follows S.Stage F.Flash me ps self.old flash.old
             → beginnings me (heard_by me (packet.now ∷ ps)) ≡ 0 → flash.new ≡ flash.old }
-        ensures same_bank { IfOk result (λ answer. IfNone answer (SameBank (bank_of self.old) (bank_of self.new))) }
+        // At a choice too many it is not called: it is as it was when the section before was heard.
+        ensures too_many { (me : Receiver) (ps : List (List ℕ)) → Follows S.Stage F.Flash me ps self.old flash.old
+            → IfOk result (λ answer. IfUnsettled answer (StopsBefore S.Stage F.Flash me (heard_by me (packet.now ∷ ps)) flash.new)) }
+        // While no verdict is reached, a stage in the bank has the places of the choice that stands there.
+        ensures stored { S.IN_BANK ≡ true → F.tells → (me : Receiver) (ps : List (List ℕ)) → Follows S.Stage F.Flash me ps self.old flash.old
+            → IfOk result (λ answer. IfNone answer (Stores (blocks_of F.Flash flash.new) (F.contents flash.new) me (heard_by me (packet.now ∷ ps)))) }
+        // The current record stays, unless a group was installed.
+        ensures same_bank { UnlessInstalled result (SameBank (bank_of self.old) (bank_of self.new)) }
         ensures lent { OnOk result (IsLent F.tells F.contents F.block_count F.block_len (bank_of self.new) flash.new) }
         ensures geometry { geometry_of (bank_of self.new) ≡ geometry_of (bank_of self.old) }
         ensures blocks { F.block_count flash.new ≡ F.block_count flash.old }
@@ -112,7 +121,7 @@ impl<S: Stage> Loader<S> {
         ensures cause { HasCause (F.faults flash.old) (F.faults flash.new) result }
     {
         self.hearer.feed(packet, &mut self.each);
-        let answer = hear_each(&mut self.collector, flash, pid_in(packet), &self.each)?;
+        let answer = hear_each(&mut self.collector, flash, pid_of(packet), &self.each)?;
         let pids = self.collector.route.listens();
         self.hearer.listen(&pids);
         Ok(answer)

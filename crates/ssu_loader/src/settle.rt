@@ -3,12 +3,15 @@
 ghost use Rattle.std.specs.Prelude.{◌≡◌, ◌≤◌, IfNone, IfOk, IfSome, List, None, OnOk, ℕ};
 ghost use Rattle.flash_bank.specs.Bank.{IsLent, geometry_of};
 ghost use Rattle.flash_dev.specs.Moments.{LeavesOnly};
+ghost use Rattle.flash_stage.specs.Leaving.{SameBank};
 ghost use Rattle.ssu_group.specs.Carried.{carried_image, missing_places, wrong_module};
 ghost use Rattle.ssu_group.specs.Map.{missing_below};
 ghost use Rattle.ssu_io.specs.Faults.{HasCause};
 ghost use Rattle.ssu_loader.specs.Collecting.{HasFilled, HoldsFilling, Works};
 ghost use Rattle.ssu_loader.specs.Decisions.{chosen_of};
-ghost use Rattle.ssu_loader.specs.Settling.{IsOfGroup, Settles, SettlingLeaves};
+ghost use Rattle.ssu_loader.specs.Leaving.{UnlessInstalled};
+ghost use Rattle.ssu_loader.specs.Settling.{Settles, SettlingLeaves};
+ghost use Rattle.ssu_loader.specs.Verdicts.{IsOn};
 
 use crate::verdict::Verdict;
 use crate::wrong::first_wrong;
@@ -30,9 +33,11 @@ pub(crate) fn settle<S: Stage, F: Flash>(
     ensures missing { (window : List (List ℕ)) → HasFilled S.Stage choice.now.plan window stage.old
         → IfOk result (λ answer. IfNone answer (1 ≤ missing_places choice.now.plan window)) }
     ensures same { IfOk result (λ answer. IfNone answer ((stage.new ≡ stage.old) × (bank.new ≡ bank.old) × (flash.new ≡ flash.old))) }
+    // The current record stays, unless the group was installed.
+    ensures same_bank { UnlessInstalled result (SameBank bank.old bank.new) }
     // No place is missing.
     ensures whole { (window : List (List ℕ)) → HasFilled S.Stage choice.now.plan window stage.old
-        → IfOk result (λ answer. IfSome answer (λ verdict. IsOfGroup verdict × (missing_places choice.now.plan window ≡ 0))) }
+        → IfOk result (λ answer. IfSome answer (λ verdict. IsOn choice.now verdict × (missing_places choice.now.plan window ≡ 0))) }
     ensures settled { F.tells → (window : List (List ℕ)) → HasFilled S.Stage choice.now.plan window stage.old
         → HoldsFilling S.Stage choice.now.plan window stage.old bank.old (F.contents flash.old)
         → IfOk result (λ answer. IfSome answer (Settles choice.now window bank.old (F.contents flash.old) (F.contents flash.new))) }
@@ -67,7 +72,8 @@ fn install<S: Stage, F: Flash>(
     requires works { Works S.Stage F.Flash choice.now.plan stage.old bank.old flash.old }
     requires whole { missing_below (S.has stage.old) choice.now.plan.places ≡ 0 }
     ensures some { IfOk result (λ answer. IfNone answer ⊥) }
-    ensures group { IfOk result (λ answer. IfSome answer IsOfGroup) }
+    ensures same_bank { UnlessInstalled result (SameBank bank.old bank.new) }
+    ensures group { IfOk result (λ answer. IfSome answer (IsOn choice.now)) }
     ensures settled { F.tells → (window : List (List ℕ)) → HasFilled S.Stage choice.now.plan window stage.old
         → HoldsFilling S.Stage choice.now.plan window stage.old bank.old (F.contents flash.old)
         → wrong_module choice.now.plan.modules.items (carried_image choice.now.plan window) ≡ None

@@ -1,6 +1,6 @@
 //! The first module that has not the CRC that it should have.
 
-ghost use Rattle.std.specs.Prelude.{◌≡◌, ◌≢◌, Contains, List, None, Some, IfOk, MatchOption, OnOk, true, ℕ};
+ghost use Rattle.std.specs.Prelude.{◌≡◌, ◌≢◌, Contains, List, None, Some, IfOk, IfSome, MatchOption, OnOk, true, ℕ};
 ghost use Rattle.std.specs.List.{find};
 ghost use Rattle.ssu_group.specs.Carried.{carried_image, is_right};
 ghost use Rattle.ssu_group.specs.Map.{missing_below};
@@ -8,6 +8,7 @@ ghost use Rattle.ssu_group.specs.declared.module_plan.ModulePlan.{ModulePlan};
 ghost use Rattle.ssu_io.specs.Faults.{HasCause};
 ghost use Rattle.ssu_loader.specs.Collecting.{HasFilled, HoldsFilling, Works};
 ghost use Rattle.ssu_loader.specs.Settling.{IsWrongOf, Stays, is_wrong};
+ghost use Rattle.ssu_loader.specs.Verdicts.{DiffersFrom};
 
 use flash_bank::{Bank, FlashFault};
 use flash_dev::Flash;
@@ -38,6 +39,7 @@ fn wrong_of<S: Stage, F: Flash>(
         → HoldsFilling S.Stage plan.now window stage.old bank.old (F.contents flash.old)
         → IfOk result (λ answer. MatchOption answer (is_right (carried_image plan.now window) part.now ≡ true)
         (λ wrong. IsWrongOf (carried_image plan.now window) part.now wrong)) }
+    ensures differs { IfOk result (λ answer. IfSome answer (λ wrong. DiffersFrom plan.now wrong.id wrong.want wrong.found)) }
     ensures stays { Stays S.Stage F.Flash stage.old bank.old flash.old stage.new bank.new flash.new }
     ensures most { S.most stage.new ≡ S.most stage.old }
     ensures cause { HasCause (F.faults flash.old) (F.faults flash.new) result }
@@ -73,6 +75,7 @@ pub(crate) fn first_wrong<S: Stage, F: Flash>(
         → IfOk result (λ answer. MatchOption answer (find (is_wrong (carried_image plan.now window)) plan.now.modules.items ≡ None)
         (λ wrong. (m : ModulePlan) × (find (is_wrong (carried_image plan.now window)) plan.now.modules.items ≡ Some m)
         × IsWrongOf (carried_image plan.now window) m wrong)) }
+    ensures differs { IfOk result (λ answer. IfSome answer (λ wrong. DiffersFrom plan.now wrong.id wrong.want wrong.found)) }
     ensures stays { Stays S.Stage F.Flash stage.old bank.old flash.old stage.new bank.new flash.new }
     ensures most { S.most stage.new ≡ S.most stage.old }
     ensures cause { HasCause (F.faults flash.old) (F.faults flash.new) result }

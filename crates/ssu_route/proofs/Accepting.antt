@@ -6,7 +6,7 @@ use Rattle.arrayvec.specs.ArrayVec.{ArrayVec}
 use Rattle.std.specs.List.{filter}
 use Rattle.std.proofs.lemmas.List.{take-map}
 use Rattle.wire.specs.Format.{Whole}
-use Rattle.wire.specs.Laws.{IsWhole}
+use Rattle.wire.specs.Exact.{IsWhole}
 use Rattle.ssu_compat.specs.declared.rule.SwId.{SwId}
 use Rattle.dsmcc_msg.specs.Control.{GroupFields, DsiFields, dsi}
 use Rattle.ssu_route.specs.declared.found.Found.{Found}

@@ -5,7 +5,7 @@ use Rattle.wire.specs.Format.{IsPair}
 use Rattle.wire.specs.Number.{number, number_of}
 use Rattle.section_form.specs.Long.{LongFields, long_form, unchecked_form}
 use Rattle.dsmcc_msg.specs.Control.{DiiFields, DsiFields, dii, dsi}
-use Rattle.dsmcc_msg.specs.Exact.{dii_exact, dsi_exact}
+use Rattle.dsmcc_msg.proofs.Exact.{dii_exact, dsi_exact}
 
 -- the first byte of a section in the long form is its table_id
 of_one_byte : (front back section : List ℕ) (n : ℕ) → section ≡ front ++ back → length front ≡ 1 → number_of front ≡ n → get_or section 0 0 ≡ n

@@ -2,7 +2,7 @@
 use Rattle.std.proofs.Common.{◌≡◌, ℕ, ◌≤◌, List, length, Some, sym, ap, subst, ◌∙◌, arith}
 use Rattle.std.proofs.lemmas.Bool.{leb-true}
 use Rattle.dsmcc_msg.specs.Control.{DiiFields, dii, dii_message}
-use Rattle.dsmcc_msg.specs.Exact.{dii_message_exact}
+use Rattle.dsmcc_msg.proofs.Exact.{dii_message_exact}
 use Rattle.ssu_route.specs.Offers.{dii_of}
 
 -- the message is the text that spells it

@@ -9,7 +9,7 @@ use Rattle.route_part.specs.Said.{last_said}
 use Rattle.route_part.proofs.Steps.{last_said-step, since-stays}
 use Rattle.ts_section.specs.Events.{Heard}
 use Rattle.dsmcc_msg.specs.Control.{DiiFields, dii}
-use Rattle.dsmcc_msg.specs.Exact.{dii_exact}
+use Rattle.dsmcc_msg.proofs.Exact.{dii_exact}
 use Rattle.ssu_group.specs.Refusal.{refusal}
 use Rattle.route_tables.specs.Values.{Receiver, CarouselFound, same_carousel}
 use Rattle.route_tables.specs.Levels.{level_5}

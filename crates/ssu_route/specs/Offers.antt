@@ -5,10 +5,9 @@ use Rattle.std.specs.List.{filter, list_any}
 use Rattle.std.specs.Option.{option_map, option_and_then}
 use Rattle.std.specs.Str.{bytes_eq}
 use Rattle.ts_section.specs.Events.{Heard}
-use Rattle.si_desc.specs.Descriptors.{DescFields, whole_descriptors}
+use Rattle.si_desc.specs.Descriptors.{DescFields, subgroup_association, whole_descriptors}
 use Rattle.ssu_compat.specs.Match.{matches, offered, admits}
 use Rattle.ssu_compat.specs.declared.rule.SwId.{SwId}
-use Rattle.ssu_unt.specs.Descriptors.{subgroup}
 use Rattle.dsmcc_msg.specs.Control.{GroupFields, DsiFields, dsi, DiiFields, dii, dii_message}
 use Rattle.route_tables.specs.Values.{Receiver, CarouselFound, same_option, same_list, same_number}
 use Rattle.route_tables.specs.Said.{on}
@@ -42,7 +41,7 @@ is_number number None = false
 is_number number (Some n) = n == number
 
 abbrev pub is_subgroup : ℕ → DescFields → Bool
-is_subgroup number d = d.tag == 0x0B && is_number number (subgroup.of d.body)
+is_subgroup number d = d.tag == 0x0B && is_number number (subgroup_association.of d.body)
 
 -- A group carries a subgroup if any whole descriptor of its info has tag 0x0B, five bytes and that number. Where none is
 -- looked for, each group will do.

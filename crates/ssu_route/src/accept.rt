@@ -2,9 +2,7 @@
 
 ghost use Rattle.std.specs.Prelude.{◌≡◌, ◌≤◌, ◌++◌, ◌∷◌, [], length, map, take, Some};
 ghost use Rattle.std.specs.Option.{option_map};
-ghost use Rattle.wire.specs.Read.{Reads};
 ghost use Rattle.si_desc.specs.Views.{desc_view};
-ghost use Rattle.ssu_unt.specs.Descriptors.{subgroup as subgroup_format};
 ghost use Rattle.dsmcc_msg.specs.Control.{dsi};
 ghost use Rattle.ssu_route.specs.Accepted.{accepted_in, found_items, group_view, is_accepted_by};
 ghost use Rattle.ssu_route.specs.Kept.{afresh};
@@ -13,9 +11,9 @@ ghost use Rattle.ssu_route.specs.Offers.{carries_subgroup, is_subgroup as names_
 use crate::found::{Found, FoundGroups};
 use arrayvec::ArrayVec;
 use dsmcc_msg::{Dsi, Group};
-use si_desc::{Desc, DescRow};
+use si_desc::{Desc, DescRow, subgroup as subgroup_of};
 use ssu_compat::{BoxId, Rule, SwId, admits};
-use wire::{Items, u40_at};
+use wire::Items;
 
 /// ssu_subgroup_association descriptor
 const SUBGROUP: u8 = 0x0B;
@@ -31,15 +29,6 @@ pub(crate) struct Terms {
     pub(crate) bank_len: u32,
 }
 
-/// The number of a subgroup association descriptor, which has five bytes.
-#[tactic(auto, unfolding(ssu_unt::specs::Descriptors::subgroup))]
-fn number_of(body: &[u8]) -> Option<u64>
-    ensures { Reads (λ x. x) result (subgroup_format.of body.now) }
-{
-    let (number, rest) = u40_at(body)?;
-    if rest.is_empty() { Some(number) } else { None }
-}
-
 /// Does the descriptor name this subgroup?
 fn is_subgroup(desc: &Desc<'_>, subgroup: u64) -> bool
     ensures { result ≡ names_subgroup subgroup (desc_view desc.now) }
@@ -47,7 +36,7 @@ fn is_subgroup(desc: &Desc<'_>, subgroup: u64) -> bool
     if desc.tag != SUBGROUP {
         return false;
     }
-    match number_of(desc.body) {
+    match subgroup_of(desc.body) {
         Some(number) => number == subgroup,
         None => false,
     }

@@ -11,12 +11,10 @@ mod laws;
 mod report;
 mod route;
 
+pub use box_file::{BoxFault, BoxFile, FieldName};
 pub use change::Change;
 pub use choice::Choice;
 pub use laws::{changes_tell, choices_count, choices_stay, windows_grow};
 pub use report::Report;
 pub use route::Route;
 pub use ssu_answer::Level;
-
-#[cfg(test)]
-mod tests;

@@ -1,11 +1,17 @@
--- The exit code of a status, and its text on standard error.
+-- The exit code of a status, its text on standard error, the status of a verdict, and facts for one status.
 use Rattle.std.specs.Prelude.{ℕ, List, [], ◌++◌, codes, decimal}
 use Rattle.ssu_answer.specs.declared.build_fault.BuildFault.{BuildFault}
 use Rattle.ssu_answer.specs.declared.build_fault.BuildFault.TheVariants.{ImageTooLong, TooManySections, Memory}
 use Rattle.ssu_answer.specs.declared.chosen.Chosen.{Chosen}
 use Rattle.ssu_answer.specs.declared.level.Level.{Level}
+use Rattle.ssu_answer.specs.declared.verdict.Verdict.{Verdict}
+use Rattle.ssu_answer.specs.declared.verdict.Verdict.TheVariants as verdict
 use Rattle.ssu_status.specs.declared.status.Status.{Status}
-use Rattle.ssu_status.specs.declared.status.Status.TheVariants.{Done, Installed, Usage, BoxRefused, PlanRefused, Foreign, Nothing, Incomplete, BadModule, Absent, ReadFault, WriteFault, FlashFault, Worn, TooLong, NoMemory, NoFit, Geometry, ShelfFault, Unsettled, BuildRefused}
+use Rattle.ssu_status.specs.declared.status.Status.TheVariants.{Done, Installed, Usage, BoxRefused, PlanRefused}
+use Rattle.ssu_status.specs.declared.status.Status.TheVariants.{Foreign, Nothing, Incomplete, BadModule, Absent}
+use Rattle.ssu_status.specs.declared.status.Status.TheVariants.{ReadFault, WriteFault, FlashFault, Worn, TooLong}
+use Rattle.ssu_status.specs.declared.status.Status.TheVariants.{NoMemory, NoFit, Geometry, ShelfFault, Unsettled}
+use Rattle.ssu_status.specs.declared.status.Status.TheVariants.{BuildRefused}
 
 abbrev pub code_of : Status → ℕ
 code_of Done = 0
@@ -57,6 +63,23 @@ text_of Geometry = codes "flash has a wrong geometry"
 text_of ShelfFault = codes "file could not be read"
 text_of Unsettled = []
 text_of (BuildRefused fault) = refusal_text fault
+
+-- the status of a verdict
+abbrev pub status_of : Verdict → Status
+status_of (verdict.Installed chosen) = Installed chosen
+status_of (verdict.Nothing level) = Nothing level
+status_of (verdict.Incomplete chosen missing) = Incomplete chosen missing
+status_of (verdict.BadModule id want found) = BadModule id want found
+status_of verdict.Unsettled = Unsettled
+
+-- the fact for the verdict that a status tells
+abbrev pub OnVerdict : Status → (Verdict → Type 0) → Type 0
+OnVerdict (Installed chosen) fact = fact (verdict.Installed chosen)
+OnVerdict (Nothing level) fact = fact (verdict.Nothing level)
+OnVerdict (Incomplete chosen missing) fact = fact (verdict.Incomplete chosen missing)
+OnVerdict (BadModule id want found) fact = fact (verdict.BadModule id want found)
+OnVerdict Unsettled fact = fact verdict.Unsettled
+OnVerdict other fact = Unit {0}
 
 -- ---- the fact for one status
 

@@ -1,9 +1,10 @@
 -- The words of the command line: a folder, a command and its arguments. A number is written in decimal digits, without
 -- a sign and without a leading zero but in 0.
 use Rattle.std.specs.Prelude.{◌≡◌, ℕ, ◌<◌, ◌≤◌, List, [], ◌∷◌, IsTrue, codes, decimal}
-use Rattle.file_names.specs.FileName.{is_file_name}
+use Rattle.ssu_io.specs.FileName.{is_file_name}
 use Rattle.ssu_status.specs.declared.command.Command.{Command}
-use Rattle.ssu_status.specs.declared.command.Command.TheVariants.{Hear, Load, Find, Show, Build, Blank, Format, Boot, Replay}
+use Rattle.ssu_status.specs.declared.command.Command.TheVariants.{Hear, Load, Find, Show, Build, Blank, Format, Boot}
+use Rattle.ssu_status.specs.declared.command.Command.TheVariants.{Replay}
 
 -- What the words ask for. A file is given by its name.
 pub data Task : Type 0 where

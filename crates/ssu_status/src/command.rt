@@ -1,11 +1,12 @@
 //! The words of the command line.
-ghost use Rattle.std.specs.Prelude.{◌≡◌, ◌<◌, ◌≤◌, ℕ, List, [], ◌∷◌, map, string_bytes, decimal, length, Some, IfSome, IsTrue, option_map};
-ghost use Rattle.file_names.specs.FileName.{is_file_name};
+ghost use Rattle.std.specs.Prelude.{◌≡◌, ◌<◌, ◌≤◌, ℕ, List, [], ◌∷◌, map, string_bytes, decimal, length, Some, IfSome};
+ghost use Rattle.std.specs.Prelude.{IsTrue, option_map};
+ghost use Rattle.ssu_io.specs.FileName.{is_file_name};
 ghost use Rattle.ssu_status.specs.Words.{IsCommandLine, IsInRange, MakesFile, Task, words_of, file_made_by, task_of};
 
 use crate::number::number;
-use file_names::file_name;
 use ssu_answer::FileName;
+use ssu_io::file_name;
 use ts_packet::Pid;
 
 /// A command with its arguments.

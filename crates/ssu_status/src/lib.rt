@@ -4,8 +4,6 @@
 mod command;
 mod number;
 mod status;
-#[cfg(test)]
-mod tests;
 
 pub use command::{Command, made_file};
 pub use ssu_answer::{BuildFault, Chosen, FileName, Level};

@@ -1,10 +1,10 @@
 //! The answer of a run.
 ghost use Rattle.std.specs.Prelude.{◌≡◌, ◌+◌, ◌≤◌, ◌++◌, decimal, length};
-ghost use Rattle.ssu_status.specs.Status.{code_of, refusal_text, text_of};
+ghost use Rattle.ssu_status.specs.Status.{code_of, refusal_text, status_of, text_of};
 
 use arrayvec::ArrayString;
 use itoa::Buffer;
-use ssu_answer::{BuildFault, Chosen, FileName, Level};
+use ssu_answer::{BuildFault, Chosen, FileName, Level, Verdict};
 use toml_fields::FieldName;
 
 /// A text on standard error, without `ssu: ` before it.
@@ -40,7 +40,7 @@ pub enum Status {
     FlashFault,
     /// The number of the current record is 4,294,967,295, and none comes after it.
     Worn,
-    /// The input has more than 16,777,216 packets.
+    /// The input has a byte behind 16,777,216 packets.
     TooLong,
     NoMemory,
     /// The image is longer than a bank of the flash.
@@ -56,6 +56,19 @@ pub enum Status {
 }
 
 impl Status {
+    /// The status of a verdict.
+    pub fn of(verdict: Verdict) -> Status
+        ensures { result ≡ status_of verdict }
+    {
+        match verdict {
+            Verdict::Installed(chosen) => Status::Installed(chosen),
+            Verdict::Nothing(level) => Status::Nothing(level),
+            Verdict::Incomplete(chosen, missing) => Status::Incomplete(chosen, missing),
+            Verdict::BadModule(id, want, found) => Status::BadModule(id, want, found),
+            Verdict::Unsettled => Status::Unsettled,
+        }
+    }
+
     /// The exit code of the program.
     pub fn code(&self) -> u8
         ensures { result ≡ code_of self.now }

@@ -10,7 +10,7 @@ use Rattle.std.proofs.lemmas.Int.{to_z_pos}
 use Rattle.jiff_core.specs.Date.{IsYmd, epoch_day}
 use Rattle.jiff_core.proofs.DateLemmas.{civil}
 use Rattle.jiff_core.specs.declared.civil.date.Date.{Date}
-use Rattle.ssu_time.specs.Calendar.{days_before_year, days_of_months, days_before, IsDate, IsMjd}
+use Rattle.ssu_time.specs.Calendar.{days_before_year, days_of_months, days_before, days_in_month, IsDate, IsMjd}
 
 days_of_years-days_before_year : (y : ℕ) → days_of_years (y + 10000) ≡ 3652425 + days_before_year y
 unfolding days_before_year
@@ -67,10 +67,33 @@ day_of_mjd (pos n) m d mjd h e = record {
 day_of_mjd (negsuc n) m d mjd h e =
     absurd (omega (arith, signed_arith, day_count-lt_year (negsuc n) m d (pos 0) 1 1 h (omega arith) (omega (arith, signed_arith)), year_zero, day_count-days_before 0 1 1 (omega arith), days_from_civil-day_count (negsuc n) m d))
 
-pub year_back : (y : ℤ) (m d mjd : ℕ) → IsDay y m d mjd → (z : ℕ) × (to_z w16 (of_z w16 y) ≡ pos z) × (z ≤ 9999) × IsDate z m d × IsMjd z m d mjd
-year_back y m d mjd h =
+most_days : (y m : ℕ) → days_in_month y m ≤ 31
+most_days y m = grind arith
+
+-- the numbers of that date, cast to types without a sign
+pub record IsCast (y : ℤ) (m d mjd : ℕ) : Type 0 where
+  pub number : ℕ
+  pub year : to_z w16 (of_z w16 y) ≡ pos number
+  pub month : to_z w8 (of_z w8 (pos m)) ≡ pos m
+  pub day : to_z w8 (of_z w8 (pos d)) ≡ pos d
+  pub year_in : number ≤ 9999
+  pub date : IsDate number m d
+  pub on_day : IsMjd number m d mjd
+
+pub cast_back : (y : ℤ) (m d mjd : ℕ) → IsDay y m d mjd → IsCast y m d mjd
+cast_back y m d mjd h =
     let small : unsigned_abs (pos h.year) < 2 ^ 15 = omega (arith, h.year_in) in
-    (h.year, rw h.year_is (back_small w16 (pos h.year) small), h.year_in, h.date, h.day)
+    let day : unsigned_abs (pos d) < 2 ^ 7 = omega (arith, h.date.day.1, most_days h.year m) in
+    let month : unsigned_abs (pos m) < 2 ^ 7 = omega (arith, h.date.month.1) in
+    record {
+      number = h.year;
+      year = rw h.year_is (back_small w16 (pos h.year) small);
+      month = back_small w8 (pos m) month;
+      day = back_small w8 (pos d) day;
+      year_in = h.year_in;
+      date = h.date;
+      on_day = h.day;
+    }
 
 -- the date that was made of small numbers has these parts
 pub record HasParts (date : Date) (y m d : ℕ) : Type 0 where

@@ -1,8 +1,6 @@
 -- UTC_time as a field of a table: ETSI EN 300 468, annex C.
-use Rattle.std.specs.Prelude.{ℕ, ◌+◌, ◌*◌, ◌/◌, ◌%◌, Bool, ◌&&◌, nat_le, List, slice_index, refl}
+use Rattle.std.specs.Prelude.{ℕ, ◌+◌, ◌*◌, ◌/◌, ◌%◌, Bool, ◌&&◌, nat_le, List, slice_index}
 use Rattle.wire.specs.Format.{Front, reads, raw, such}
-use Rattle.wire.specs.Laws.{IsFront, reads_exact, such_exact}
-use Rattle.wire.specs.Number.{raw_exact}
 use Rattle.ssu_time.specs.UtcTime.{decimal, utc_seconds}
 use Rattle.ssu_time.specs.declared.utc_time.Utc.{Utc}
 
@@ -35,9 +33,3 @@ time_fields bytes = record {
 -- UTC_time 40
 unfoldable pub utc : Front TimeFields
 utc = reads time_fields (such is_time (raw 5))
-
--- ---- exactness
-
-pub utc_exact : IsFront utc
-unfolding utc
-utc_exact = reads_exact time_fields (such_exact is_time (raw_exact 5 refl))

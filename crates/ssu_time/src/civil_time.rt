@@ -1,18 +1,20 @@
 //! A time as text, `YYYY-MM-DDThh:mm:ss`, on the proleptic Gregorian calendar.
 
 ghost use Rattle.std.specs.Prelude.{◌≡◌, ℕ, ◌+◌, ◌*◌, ◌/◌, ◌%◌, ◌<◌, ◌≤◌, ◌^◌, IfSome, Some, IsTrue, ◌↔◌, length, pos, ◌+ℤ◌};
-ghost use Rattle.jiff_core.specs.Date.{epoch_day};
+ghost use Rattle.std.specs.Option.{option_map};
+ghost use Rattle.jiff.specs.Words.{epoch_day};
 ghost use Rattle.ssu_time.specs.Calendar.{IsDate, IsMjd};
 ghost use Rattle.ssu_time.specs.CivilText.{IsTextOf, two_digits as two_digits_lem};
+ghost use Rattle.ssu_time.specs.OfText.{civil_of};
 ghost use Rattle.ssu_time.specs.Parts.{AreSmall, HasMarks, IsNumberAt, parts_text};
+ghost use Rattle.ssu_time.specs.TimeText.{time_text};
+ghost use Rattle.ssu_time.specs.UtcField.{time_view};
 ghost use Rattle.ssu_time.specs.declared.civil_time.Parts.{Parts};
 ghost use Rattle.ssu_time.specs.declared.utc_time.Utc.{Utc};
 
 use crate::utc_time::Utc;
-use jiff_core::civil::Date;
-
-/// The Modified Julian Date of 1 January 1970.
-const UNIX_EPOCH_MJD: i32 = 40_587;
+use jiff::ToSpan;
+use jiff::civil::{Date, date};
 
 /// The parts of a text of the form, which need not be a date or a time.
 #[derive(Clone, Copy)]
@@ -31,6 +33,16 @@ struct Parts {
 pub fn civil(text: &str) -> Option<Utc>
     ensures found { IfSome result (λ t. IsTextOf t.mjd t.second text.now) }
     ensures only { (t : Utc) → t.mjd < 2 ^ 16 → IsTextOf t.mjd t.second text.now → result ≡ Some t }
+    // The same as a function of the text.
+    ensures value { option_map time_view result ≡ civil_of text.now }
+{
+    time_of(text)
+}
+
+fn time_of(text: &str) -> Option<Utc>
+    ensures found { IfSome result (λ t. IsTextOf t.mjd t.second text.now) }
+    ensures only { (t : Utc) → t.mjd < 2 ^ 16 → IsTextOf t.mjd t.second text.now → result ≡ Some t }
+    ensures small { IfSome result (λ t. t.mjd < 65536) }
 {
     let parts = parts_of(text.as_bytes())?;
     if parts.hour > 23 || parts.minute > 59 || parts.second > 59 {
@@ -46,7 +58,9 @@ pub fn civil(text: &str) -> Option<Utc>
 impl Utc {
     /// The text of the time, 19 characters `YYYY-MM-DDThh:mm:ss`.
     pub fn text(self) -> [u8; 19]
-        ensures { IsTextOf self.mjd self.second result }
+        ensures is { IsTextOf self.mjd self.second result }
+        // The same as a function of the time.
+        ensures value { result ≡ time_text self }
     {
         let (year, month, day) = date_of(self.mjd);
         let hour = (self.second / 3600) as u8;
@@ -156,7 +170,7 @@ fn mjd_of(date: Date) -> Option<u16>
     ensures only { (mjd : ℕ) → mjd < 2 ^ 16 → epoch_day date +ℤ pos 40587 ≡ pos mjd
         → result ≡ Some mjd }
 {
-    let mjd = date.to_unix_epoch_day() + UNIX_EPOCH_MJD;
+    let mjd = days_to(date);
     if mjd < 0 || mjd > 65535 {
         return None;
     }
@@ -170,11 +184,25 @@ fn date_of(mjd: u16) -> (u16, u8, u8)
     ensures day { IsMjd result.0 result.1 result.2 mjd }
 {
     let date = date_at(mjd);
-    (date.year as u16, date.month, date.day)
+    (date.year() as u16, date.month() as u8, date.day() as u8)
 }
 
 fn date_at(mjd: u16) -> Date
     ensures { epoch_day result +ℤ pos 40587 ≡ pos mjd }
 {
-    Date::from_unix_epoch_day(i64::from(mjd) - i64::from(UNIX_EPOCH_MJD)).unwrap()
+    first_day().checked_add(i64::from(mjd).days()).unwrap()
+}
+
+/// The day with Modified Julian Date 0, 17 November 1858.
+fn first_day() -> Date
+    ensures { epoch_day result +ℤ pos 40587 ≡ pos 0 }
+{
+    date(1858, 11, 17)
+}
+
+/// The days from that day to the date, below 0 before it.
+fn days_to(date: Date) -> i64
+    ensures { epoch_day date +ℤ pos 40587 ≡ result }
+{
+    date.duration_since(first_day()).as_hours() / 24
 }

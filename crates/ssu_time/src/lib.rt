@@ -10,6 +10,3 @@ pub use civil_time::civil;
 pub use utc_field::utc_at;
 pub use utc_time::{Utc, read_utc, write_utc};
 pub use windows::Window;
-
-#[cfg(test)]
-mod tests;

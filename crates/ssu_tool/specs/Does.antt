@@ -1,34 +1,33 @@
--- What each command does, by what the words ask for. An object that a command has no use for is as it was.
-use Rattle.std.specs.Prelude.{◌≡◌}
+-- What each command does, by what the words ask for. An object that a command has no use for is as it was. The stage of
+-- `replay` keeps a group in memory until it is whole, and none of it in the bank.
+use Rattle.std.specs.Prelude.{true, false}
+use Rattle.flash_bank.specs.Seen.{FlashSeen}
+use Rattle.ssu_io.specs.Seen.{ShelfSeen, SinkSeen, SourceSeen}
 use Rattle.ssu_status.specs.declared.status.Status.{Status}
 use Rattle.ssu_status.specs.Words.{Task, ToHear, ToLoad, ToFind, ToShow, ToBuild, ToBlank, ToFormat, ToBoot, ToReplay}
-use Rattle.ssu_tool.specs.Seen.{ShelfSeen, SourceSeen, FlashSeen, SinkSeen}
-use Rattle.ssu_tool.specs.Hear.{HearDoes}
-use Rattle.ssu_tool.specs.Load.{LoadDoes}
-use Rattle.ssu_tool.specs.Find.{FindDoes}
-use Rattle.ssu_tool.specs.Show.{ShowDoes}
-use Rattle.ssu_tool.specs.Build.{BuildDoes}
-use Rattle.ssu_tool.specs.Blank.{BlankDoes}
-use Rattle.ssu_tool.specs.Format.{FormatDoes}
-use Rattle.ssu_tool.specs.Boot.{BootDoes}
-use Rattle.ssu_tool.specs.Replay.{ReplayDoes}
+use Rattle.tool_hear.specs.Does.{HearDoes}
+use Rattle.tool_load.specs.Does.{LoadDoes}
+use Rattle.tool_find.specs.Does.{FindDoes}
+use Rattle.tool_build.specs.Does.{BuildDoes}
+use Rattle.tool_flash.specs.Does.{BlankDoes, BootDoes, FormatDoes}
+use Rattle.tool_replay.specs.Replay.{Replays}
 
-abbrev pub Does : {H A F W T : Type 0} → Task → Status → ShelfSeen H → SourceSeen A → FlashSeen F → SinkSeen W → SinkSeen T → Type 0
+abbrev pub Does : Task → Status → ShelfSeen → SourceSeen → FlashSeen → SinkSeen → SinkSeen → Type 0
 Does (ToHear pid) result shelf air flash made out =
-    HearDoes pid result air out × ((shelf.new ≡ shelf.old) × ((flash.new ≡ flash.old) × (made.new ≡ made.old)))
+    HearDoes pid result air out × (shelf.same × (flash.same × made.same))
 Does (ToLoad pid) result shelf air flash made out =
-    LoadDoes pid result air made out × ((shelf.new ≡ shelf.old) × (flash.new ≡ flash.old))
+    LoadDoes pid result air made out × (shelf.same × flash.same)
 Does ToFind result shelf air flash made out =
-    FindDoes result shelf air out × ((flash.new ≡ flash.old) × (made.new ≡ made.old))
+    FindDoes false result shelf air out × (flash.same × made.same)
 Does ToShow result shelf air flash made out =
-    ShowDoes result shelf air out × ((flash.new ≡ flash.old) × (made.new ≡ made.old))
+    FindDoes true result shelf air out × (flash.same × made.same)
 Does ToBuild result shelf air flash made out =
-    BuildDoes result shelf made out × ((air.new ≡ air.old) × (flash.new ≡ flash.old))
+    BuildDoes result shelf made out × (air.same × flash.same)
 Does (ToBlank blocks) result shelf air flash made out =
-    BlankDoes blocks result made out × ((shelf.new ≡ shelf.old) × ((air.new ≡ air.old) × (flash.new ≡ flash.old)))
+    BlankDoes blocks result made out × (shelf.same × (air.same × flash.same))
 Does (ToFormat name) result shelf air flash made out =
-    FormatDoes name result shelf flash out × ((air.new ≡ air.old) × (made.new ≡ made.old))
+    FormatDoes name result shelf flash out × (air.same × made.same)
 Does ToBoot result shelf air flash made out =
-    BootDoes result flash made out × ((shelf.new ≡ shelf.old) × (air.new ≡ air.old))
+    BootDoes result flash made out × (shelf.same × air.same)
 Does ToReplay result shelf air flash made out =
-    ReplayDoes result shelf air flash out × (made.new ≡ made.old)
+    Replays false result shelf air flash out × made.same

@@ -1,11 +1,1 @@
-pub mod Seen
-pub mod Hear
-pub mod Load
-pub mod Find
-pub mod Show
-pub mod Build
-pub mod Blank
-pub mod Format
-pub mod Boot
-pub mod Replay
 pub mod Does

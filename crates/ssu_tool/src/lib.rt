@@ -1,8 +1,7 @@
 //! The top call of the program, over any shelf, source, flash and sinks.
 #![tactic(auto)]
 
-#[cfg(test)]
-mod tests;
 mod top;
 
+pub use ssu_status::{Status, made_file};
 pub use top::run;

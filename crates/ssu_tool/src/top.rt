@@ -1,5 +1,7 @@
 //! The top call: what the words ask for.
 ghost use Rattle.std.specs.Prelude.{◌≡◌, map, string_bytes};
+ghost use Rattle.flash_bank.specs.Seen.{flash_seen};
+ghost use Rattle.ssu_io.specs.Seen.{shelf_seen, sink_seen, source_seen};
 ghost use Rattle.ssu_status.specs.Status.{OnUsage};
 ghost use Rattle.ssu_status.specs.Words.{IsCommandLine, Task, task_of};
 ghost use Rattle.ssu_status.specs.declared.status.Status.TheVariants.{Usage};
@@ -7,8 +9,7 @@ ghost use Rattle.ssu_tool.specs.Does.{Does};
 
 use flash_dev::Flash;
 use flash_stage::RamStage;
-use ssu_io::{Sink, Source};
-use ssu_shelf::Shelf;
+use ssu_io::{Shelf, Sink, Source};
 use ssu_status::{Command, Status};
 use std::alloc::Global;
 use tool_build::build;
@@ -20,6 +21,10 @@ use tool_replay::replay;
 
 /// Does what the words ask for, with the files of `shelf`, the packets of `air` and the flash. What a command makes goes into
 /// `made`, and what it prints into `out`.
+///
+/// The words are the folder, a command and its arguments: `hear PID`, `load PID`, `find`, `show`, `build`, `blank N`,
+/// `format FILE`, `boot` or `replay`, with a PID of 0 to 8191 and an N of 4 to 65,536. `Usage` comes exactly where they are
+/// none of these, and the other answers as each command gives them.
 pub fn run<H: Shelf, A: Source, F: Flash, W: Sink, T: Sink>(
     alloc: Global,
     words: &[String],
@@ -40,21 +45,8 @@ pub fn run<H: Shelf, A: Source, F: Flash, W: Sink, T: Sink>(
 
     // What they ask for is done.
     ensures does { (task : Task) → IsCommandLine (map string_bytes words.now) task → Does task result
-        (record { held = H.held; faults = H.faults; absences = H.absences; old = shelf.old; new = shelf.new })
-        (record { left = A.left; faults = A.faults; old = air.old; new = air.new })
-        (record {
-          tells = F.tells;
-          contents = F.contents;
-          block_count = F.block_count;
-          block_len = F.block_len;
-          moment = F.moment;
-          left_since = F.left_since;
-          faults = F.faults;
-          old = flash.old;
-          new = flash.new;
-        })
-        (record { contents = W.contents; faults = W.faults; old = made.old; new = made.new })
-        (record { contents = T.contents; faults = T.faults; old = out.old; new = out.new }) }
+        (shelf_seen H.Shelf shelf.old shelf.new) (source_seen A.Source air.old air.new)
+        (flash_seen F.Flash flash.old flash.new) (sink_seen W.Sink made.old made.new) (sink_seen T.Sink out.old out.new) }
 {
     let Some(command) = Command::parse(words) else {
         return Status::Usage;
@@ -74,21 +66,8 @@ fn dispatch<H: Shelf, A: Source, F: Flash, W: Sink, T: Sink>(
 ) -> Status
     ensures no_usage { OnUsage result ⊥ }
     ensures does { Does (task_of command) result
-        (record { held = H.held; faults = H.faults; absences = H.absences; old = shelf.old; new = shelf.new })
-        (record { left = A.left; faults = A.faults; old = air.old; new = air.new })
-        (record {
-          tells = F.tells;
-          contents = F.contents;
-          block_count = F.block_count;
-          block_len = F.block_len;
-          moment = F.moment;
-          left_since = F.left_since;
-          faults = F.faults;
-          old = flash.old;
-          new = flash.new;
-        })
-        (record { contents = W.contents; faults = W.faults; old = made.old; new = made.new })
-        (record { contents = T.contents; faults = T.faults; old = out.old; new = out.new }) }
+        (shelf_seen H.Shelf shelf.old shelf.new) (source_seen A.Source air.old air.new)
+        (flash_seen F.Flash flash.old flash.new) (sink_seen W.Sink made.old made.new) (sink_seen T.Sink out.old out.new) }
 {
     match command {
         Command::Hear(pid) => hear(alloc, pid, air, out),

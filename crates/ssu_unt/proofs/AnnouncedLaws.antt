@@ -2,12 +2,15 @@
 use Rattle.std.proofs.Common.{◌≡◌, ℕ, ◌*◌, ◌/◌, ◌%◌, ◌<◌, ◌^◌, Bool, true, false, cond, eqb, [], ◌++◌, refl, arith}
 use Rattle.std.proofs.lemmas.Bool.{eqb-true}
 use Rattle.si_desc.proofs.Puts.{desc_put}
+use Rattle.si_desc.specs.Descriptors.{subgroup_association}
 use Rattle.ssu_time.specs.UtcField.{time_view}
 use Rattle.ssu_time.specs.UtcTime.{utc_bytes}
 use Rattle.ssu_time.specs.declared.utc_time.Utc.{Utc}
 use Rattle.ssu_time.proofs.UtcFieldLaws.{utc_put}
-use Rattle.wire.specs.Number.{bytes_of, number1_put, number2_put, number5_put}
-use Rattle.ssu_unt.specs.Descriptors.{scheduling, turns_if, update_flag, location, subgroup}
+use Rattle.wire.proofs.Laws.{pair_put}
+use Rattle.wire.specs.Number.{bytes_of}
+use Rattle.wire.proofs.Numbers.{number1_put, number2_put, number5_put}
+use Rattle.ssu_unt.specs.Descriptors.{scheduling, turns_if, update_flag, location}
 use Rattle.ssu_unt.specs.Announced.{IsLocation, IsScheduling, IsSubgroup, IsUpdate, flag_for, hours_by_turns, hours_window, location_bytes, schedule_flags, scheduling_bytes, subgroup_bytes, update_bytes}
 
 -- ---- scheduling
@@ -19,19 +22,9 @@ turns_by true period duration none p d = let is : period ≡ 0 = none refl in rw
 turns_by false period duration none p d = (
   ((period, (duration, 0)), []),
   refl,
-  record {
-    front = bytes_of 1 period ++ (bytes_of 1 duration ++ bytes_of 1 0);
-    back = [];
-    parts = refl;
-    first = record {
-      front = bytes_of 1 period;
-      back = bytes_of 1 duration ++ bytes_of 1 0;
-      parts = refl;
-      first = number1_put period p;
-      second = record { front = bytes_of 1 duration; back = bytes_of 1 0; parts = refl; first = number1_put duration d; second = number1_put 0 (omega arith) };
-    };
-    second = refl;
-  },
+  pair_put _ [] (
+      pair_put (bytes_of 1 period) _ (number1_put period p) (
+      pair_put (bytes_of 1 duration) (bytes_of 1 0) (number1_put duration d) (number1_put 0 (omega arith)))) refl,
 )
 
 turns_put : (period duration : ℕ) → period < 2 ^ 8 → duration < 2 ^ 8
@@ -59,25 +52,9 @@ scheduling_put start end period duration s e p d =
       opens = (
         (time_view start, (time_view end, (schedule_flags period, (period * 3600, hours_by_turns period duration * 3600)))),
         refl,
-        record {
-          front = utc_bytes start.mjd start.second;
-          back = utc_bytes end.mjd end.second ++ behind;
-          parts = refl;
-          first = utc_put (time_view start) s;
-          second = record {
-            front = utc_bytes end.mjd end.second;
-            back = behind;
-            parts = refl;
-            first = utc_put (time_view end) e;
-            second = record {
-              front = bytes_of 1 (schedule_flags period);
-              back = turns;
-              parts = refl;
-              first = number1_put (schedule_flags period) (flags_small period);
-              second = turns_put period duration p d;
-            };
-          };
-        },
+        pair_put (utc_bytes start.mjd start.second) _ (utc_put (time_view start) s) (
+            pair_put (utc_bytes end.mjd end.second) _ (utc_put (time_view end) e) (
+            pair_put (bytes_of 1 (schedule_flags period)) turns (number1_put (schedule_flags period) (flags_small period)) (turns_put period duration p d))),
       );
     }
 
@@ -85,8 +62,8 @@ scheduling_put start end period duration s e p d =
 
 flag_put : (manual : Bool) → update_flag.Spells (flag_for manual) (bytes_of 1 (flag_for manual * 64))
 unfolding update_flag
-flag_put true = ((0, []), refl, record { front = bytes_of 1 0; back = []; parts = refl; first = number1_put 0 (omega arith); second = refl })
-flag_put false = ((64, []), refl, record { front = bytes_of 1 64; back = []; parts = refl; first = number1_put 64 (omega arith); second = refl })
+flag_put true = ((0, []), refl, pair_put (bytes_of 1 0) [] (number1_put 0 (omega arith)) refl)
+flag_put false = ((64, []), refl, pair_put (bytes_of 1 64) [] (number1_put 64 (omega arith)) refl)
 
 pub update_put : (manual : Bool) → IsUpdate (flag_for manual) (update_bytes manual)
 update_put manual = record {
@@ -106,24 +83,13 @@ location_put tag h =
       leads = (
         (tt, ((tt, tag), [])),
         refl,
-        record {
-          front = bytes_of 2 0x000A;
-          back = behind;
-          parts = refl;
-          first = number2_put 0x000A (omega arith);
-          second = record {
-            front = behind;
-            back = [];
-            parts = refl;
-            first = record { front = bytes_of 1 0; back = bytes_of 1 tag; parts = refl; first = number1_put 0 (omega arith); second = number1_put tag h };
-            second = refl;
-          };
-        },
+        pair_put (bytes_of 2 0x000A) _ (number2_put 0x000A (omega arith)) (
+            pair_put behind [] (pair_put (bytes_of 1 0) (bytes_of 1 tag) (number1_put 0 (omega arith)) (number1_put tag h)) refl),
       );
     }
 
 pub subgroup_put : (number : ℕ) → number < 2 ^ 40 → IsSubgroup number (subgroup_bytes number)
-unfolding subgroup
+unfolding subgroup_association
 subgroup_put number h = record {
   body = bytes_of 5 number;
   spelled = desc_put 0x0B (bytes_of 5 number) (omega arith) (omega arith);

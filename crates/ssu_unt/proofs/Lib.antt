@@ -2,3 +2,4 @@ pub mod AnnouncedLaws
 pub mod Counting
 pub mod Keeping
 pub mod Spelling
+pub mod Exact

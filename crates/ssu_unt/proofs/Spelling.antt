@@ -1,53 +1,37 @@
 -- What is written is a spelling.
-use Rattle.std.proofs.Common.{◌≡◌, ℕ, ◌+◌, ◌*◌, ◌/◌, ◌<◌, ◌^◌, Bool, true, false, List, [], ◌∷◌, ◌++◌, length, refl, sym, ap, subst, ◌∙◌, append_assoc, arith}
+use Rattle.std.proofs.Common.{◌≡◌, ℕ, ◌+◌, ◌*◌, ◌/◌, ◌<◌, ◌^◌, Bool, true, false, List, [], ◌∷◌, ◌++◌, length, Some, refl, sym, ap, subst, ◌∙◌, append_assoc, arith}
 use Rattle.std.specs.Prelude.{Result, Ok, Err, OnOk, IfOk}
 use Rattle.section_form.specs.Long.{LongFields, long_form}
-use Rattle.si_desc.specs.Descriptors.{IsRow, row}
+use Rattle.si_desc.specs.Descriptors.{IsRow}
+use Rattle.si_desc.specs.Written.{row_bytes}
+use Rattle.si_desc.proofs.RowLaws.{row_put}
 use Rattle.ssu_compat.specs.Compat.{EntryFields, compat}
-use Rattle.wire.specs.Format.{SpellsEach}
-use Rattle.wire.specs.Items.{each_push}
-use Rattle.wire.specs.Number.{bytes_of, number1_put, number2_put, number3_put, low12_put}
-use Rattle.ssu_unt.specs.Table.{PairFields, PlatformFields, body, loop_row, pair, platform, unt}
-use Rattle.ssu_unt.specs.Written.{Draft, HasPlatforms, IsDraftOf, body_bytes, head_bytes, head_of, last_bytes, loop_bytes, new_draft, no_pairs, oui_hash, pair_bytes, unt_of, with_last, with_pair, with_platform}
+use Rattle.wire.specs.Format.{SpellsEach, to_end}
+use Rattle.wire.specs.Items.{items_of}
+use Rattle.wire.proofs.ItemLaws.{each_push, items_spelled}
+use Rattle.wire.proofs.Laws.{pair_put, sized_put, to_end_exact}
+use Rattle.wire.specs.Number.{bytes_of}
+use Rattle.wire.proofs.Numbers.{number1_put, number2_put, number3_put}
+use Rattle.ssu_unt.specs.Exact.{pair_is_exact}
+use Rattle.ssu_unt.specs.Table.{PairFields, PlatformFields, body, pair, platform, unt}
+use Rattle.ssu_unt.specs.Written.{Draft, HasPlatforms, IsDraftOf, body_bytes, head_bytes, head_of, last_bytes, new_draft, no_pairs, oui_hash, pair_bytes, unt_of, with_last, with_one, with_pair, with_platform}
 
-loop_put : (row : List ℕ) → IsRow row → length row < 2 ^ 12 → loop_row.Spells row (loop_bytes row)
-unfolding loop_row
-loop_put row is short = record {
-  front = bytes_of 2 (15 * 2 ^ 12 + length row);
-  inside = row;
-  parts = refl;
-  len = low12_put 15 (length row) (omega arith) short;
-  filled = (refl, is.0, is.1);
-}
-
-pair_put : (target operational : List ℕ) → IsRow target → IsRow operational → length target < 2 ^ 12 → length operational < 2 ^ 12
+pair_of_rows : (target operational : List ℕ) → IsRow target → IsRow operational → length target < 2 ^ 12 → length operational < 2 ^ 12
     → pair.Spells (record { target = target; operational = operational }) (pair_bytes target operational)
 unfolding pair
-pair_put target operational t o a b = (
+pair_of_rows target operational t o a b = (
   (target, operational),
   refl,
-  record {
-    front = loop_bytes target;
-    back = loop_bytes operational;
-    parts = refl;
-    first = loop_put target t a;
-    second = loop_put operational o b;
-  },
+  pair_put (row_bytes target) (row_bytes operational) (row_put target t a) (row_put operational o b),
 )
 
 platform_put : (entries : List EntryFields) (compat_bytes : List ℕ) (pairs : List PairFields) (bytes : List ℕ) → compat.Spells entries compat_bytes → SpellsEach pair.Spells pairs bytes → length bytes < 2 ^ 16
-    → platform.Spells (record { compat = entries; pairs = bytes }) (compat_bytes ++ (bytes_of 2 (length bytes) ++ bytes))
+    → platform.Spells (record { compat = entries; pairs = pairs; platform_loop = bytes }) (compat_bytes ++ (bytes_of 2 (length bytes) ++ bytes))
 unfolding platform
 platform_put entries compat_bytes pairs bytes c p short = (
-  (entries, bytes),
+  (entries, (pairs, bytes)),
   refl,
-  record {
-    front = compat_bytes;
-    back = bytes_of 2 (length bytes) ++ bytes;
-    parts = refl;
-    first = c;
-    second = record { front = bytes_of 2 (length bytes); inside = bytes; parts = refl; len = number2_put (length bytes) short; filled = (refl, pairs, p) };
-  },
+  pair_put compat_bytes _ c (sized_put (bytes_of 2 (length bytes)) bytes (number2_put (length bytes) short) (p, refl)),
 )
 
 -- the bytes of some platforms
@@ -57,19 +41,10 @@ pub record Platforms (platforms : List PlatformFields) (bytes : List ℕ) : Type
 body_put : (oui : ℕ) (common : List ℕ) (platforms : List PlatformFields) (bytes : List ℕ) → oui < 2 ^ 24 → IsRow common → length common < 2 ^ 12 → SpellsEach platform.Spells platforms bytes
     → body.Spells (oui, (0, (common, platforms))) (head_bytes oui common ++ bytes)
 unfolding body
-body_put oui common platforms bytes o c short p = record {
-  front = bytes_of 3 oui;
-  back = bytes_of 1 0 ++ (loop_bytes common ++ bytes);
-  parts = refl;
-  first = number3_put oui o;
-  second = record {
-    front = bytes_of 1 0;
-    back = loop_bytes common ++ bytes;
-    parts = refl;
-    first = number1_put 0 (omega arith);
-    second = record { front = loop_bytes common; back = bytes; parts = refl; first = loop_put common c short; second = p };
-  };
-}
+body_put oui common platforms bytes o c short p =
+    pair_put (bytes_of 3 oui) _ (number3_put oui o) (
+    pair_put (bytes_of 1 0) _ (number1_put 0 (omega arith)) (
+    pair_put (row_bytes common) bytes (row_put common c short) p))
 
 -- the bytes behind the head, and the platforms that they spell
 pub record Written (w : Draft) (common : List ℕ) (platforms : List PlatformFields) : Type 0 where
@@ -135,14 +110,17 @@ draft_platform w common platforms entries compat_bytes h short c =
       };
     }
 
-with_last-append : (bytes : List ℕ) (ps : List PlatformFields) (p : PlatformFields) → with_last bytes (ps ++ p ∷ []) ≡ ps ++ (record p { pairs = p.pairs ++ bytes }) ∷ []
-with_last-append bytes [] p = refl
-with_last-append bytes (q ∷ []) p = refl
-with_last-append bytes (q ∷ r ∷ ps) p = ap (λ (l : List PlatformFields). q ∷ l) (with_last-append bytes (r ∷ ps) p)
+with_last-append : (x : PairFields) (ps : List PlatformFields) (p : PlatformFields) → with_last x (ps ++ p ∷ []) ≡ ps ++ with_one x p ∷ []
+with_last-append x [] p = refl
+with_last-append x (q ∷ []) p = refl
+with_last-append x (q ∷ r ∷ ps) p = ap (λ (l : List PlatformFields). q ∷ l) (with_last-append x (r ∷ ps) p)
+
+abbrev pair_of : List ℕ → List ℕ → PairFields
+pair_of target operational = record { target = target; operational = operational }
 
 pub draft_pair : (w : Draft) (common : List ℕ) (platforms : List PlatformFields) (target operational : List ℕ)
     → IsDraftOf w common platforms → w.begun ≡ true → IsRow target → IsRow operational → length target < 2 ^ 12 → length operational < 2 ^ 12
-    → IsDraftOf (with_pair target operational w) common (with_last (pair_bytes target operational) platforms)
+    → IsDraftOf (with_pair target operational w) common (with_last (pair_of target operational) platforms)
 draft_pair w common platforms target operational h begun t o a b =
     let was = h.some begun in
     record {
@@ -154,12 +132,12 @@ draft_pair w common platforms target operational h begun t o a b =
         entries = was.entries;
         earlier_bytes = was.earlier_bytes;
         compat_bytes = was.compat_bytes;
-        pairs = was.pairs ++ (record { target = target; operational = operational }) ∷ [];
+        pairs = was.pairs ++ pair_of target operational ∷ [];
         front = was.front;
-        all = ap (with_last (pair_bytes target operational)) was.all ∙ with_last-append (pair_bytes target operational) was.earlier _;
+        all = ap (with_last (pair_of target operational)) was.all ∙ with_last-append (pair_of target operational) was.earlier _;
         spelled = was.spelled;
         compat_spelled = was.compat_spelled;
-        pairs_spelled = each_push pair.Spells was.pairs w.pairs _ (pair_bytes target operational) was.pairs_spelled (pair_put target operational t o a b);
+        pairs_spelled = each_push pair.Spells was.pairs w.pairs _ (pair_bytes target operational) was.pairs_spelled (pair_of_rows target operational t o a b);
       };
     }
 
@@ -170,14 +148,11 @@ pub unt_written : (w : Draft) (common : List ℕ) (platforms : List PlatformFiel
 unfolding unt
 unt_written w common platforms section o hash few h long =
     let is = written w common platforms h few in
-    record {
-      head = head_of w;
-      inside = (w.oui, (0, (common, platforms)));
-      long = long;
-      table = refl;
-      spelled = subst (λ (l : List ℕ). body.Spells (w.oui, (0, (common, platforms))) l) (sym is.parts) (body_put w.oui common platforms is.bytes o h.row h.short is.spelled);
-      fields = ap (λ (n : ℕ). record (unt_of w.oui common platforms) { action = n }) (one (oui_hash w.oui) hash);
-    }
+    let inside = body_put w.oui common platforms is.bytes o h.row h.short is.spelled in (
+      (head_of w, (w.oui, (0, (common, platforms)))),
+      ap (λ (n : ℕ). record (unt_of w.oui common platforms) { action = n }) (one (oui_hash w.oui) hash),
+      ((refl, long), subst (λ (l : List ℕ). body.Spells (w.oui, (0, (common, platforms))) l) (sym is.parts) inside),
+    )
   where
     one : (n : ℕ) → n < 256 → (1 * 256 + n) / 256 ≡ 1
     one n h = omega arith
@@ -185,10 +160,10 @@ unt_written w common platforms section o hash few h long =
 pub added_pair : {E : Type 0} (result : Result (Unit {0}) E) (old new : Draft) (common : List ℕ) (platforms : List PlatformFields) (target operational : List ℕ)
     → IsDraftOf old common platforms → old.begun ≡ true → IsRow target → IsRow operational
     → OnOk result ((length target < 2 ^ 12) × (length operational < 2 ^ 12)) → OnOk result (new ≡ with_pair target operational old)
-    → OnOk result (IsDraftOf new common (with_last (pair_bytes target operational) platforms))
+    → OnOk result (IsDraftOf new common (with_last (pair_of target operational) platforms))
 added_pair (Err e) old new common platforms target operational h b t o short is = tt
 added_pair (Ok x) old new common platforms target operational h b t o short is =
-    subst (λ (w : Draft). IsDraftOf w common (with_last (pair_bytes target operational) platforms)) (sym is) (draft_pair old common platforms target operational h b t o short.0 short.1)
+    subst (λ (w : Draft). IsDraftOf w common (with_last (pair_of target operational) platforms)) (sym is) (draft_pair old common platforms target operational h b t o short.0 short.1)
 
 pub head_is : (w : Draft) (oui hash version : ℕ) (text : List ℕ) (head : LongFields) → w.oui ≡ oui → w.version ≡ version → hash ≡ oui_hash oui → text ≡ body_bytes w
     → head ≡ record { table = 0x4B; extension = 256 + hash; version = version; number = 0; last = 0; body = text } → head ≡ head_of w
@@ -211,3 +186,7 @@ pub made : {E : Type 0} (result : Result Draft E) (oui version : ℕ) (common : 
     → OnOk result (length common < 2 ^ 12) → IfOk result (λ w. w ≡ new_draft oui version common) → IfOk result (λ w. IsDraftOf w common [])
 made (Err e) oui version common is_row short is = tt
 made (Ok w) oui version common is_row short is = subst (λ (v : Draft). IsDraftOf v common []) (sym is) (draft_new oui version common is_row short)
+
+-- Bytes that were read as pairs have these pairs.
+pub pairs_read : (bytes : List ℕ) (pairs : List PairFields) → (to_end pair).of bytes ≡ Some pairs → items_of pair bytes ≡ pairs
+pairs_read bytes pairs e = items_spelled pair pair_is_exact pairs bytes ((to_end_exact pair_is_exact).takes bytes pairs e)

@@ -1,12 +1,12 @@
 -- The descriptors of an operational loop that are written: ETSI TS 102 006 9.6. Reserved bits are ones; there are no
 -- private bytes.
 use Rattle.std.specs.Prelude.{ℕ, ◌+◌, ◌*◌, Bool, if◌then◌else◌, ◌==◌, List, ◌++◌}
-use Rattle.si_desc.specs.Descriptors.{descriptor}
+use Rattle.si_desc.specs.Descriptors.{descriptor, subgroup_association}
 use Rattle.ssu_time.specs.UtcTime.{utc_seconds}
 use Rattle.ssu_time.specs.declared.utc_time.Utc.{Utc}
 use Rattle.ssu_time.specs.declared.windows.Window.{Window}
 use Rattle.wire.specs.Number.{bytes_of}
-use Rattle.ssu_unt.specs.Descriptors.{scheduling, update_flag, location, subgroup}
+use Rattle.ssu_unt.specs.Descriptors.{scheduling, update_flag, location}
 
 -- ---- scheduling
 
@@ -84,4 +84,4 @@ subgroup_bytes number = bytes_of 1 0x0B ++ (bytes_of 1 5 ++ bytes_of 5 number)
 pub record IsSubgroup (number : ℕ) (bytes : List ℕ) : Type 0 where
   pub body : List ℕ
   pub spelled : descriptor.Spells (record { tag = 0x0B; body = body }) bytes
-  pub numbered : subgroup.Spells number body
+  pub numbered : subgroup_association.Spells number body

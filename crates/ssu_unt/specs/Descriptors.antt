@@ -3,7 +3,7 @@ use Rattle.std.specs.Prelude.{ℕ, ◌*◌, ◌/◌, ◌%◌, ◌==◌, if◌the
 use Rattle.std.specs.List.{list_any}
 use Rattle.ssu_time.specs.UtcField.{TimeFields, seconds_of, utc}
 use Rattle.ssu_time.specs.declared.windows.Window.{Window}
-use Rattle.wire.specs.Format.{Whole, fixed, ◌&◌, ◌then◌, rest, only, to_end, whole_reads}
+use Rattle.wire.specs.Format.{Whole, fixed, ◌&◌, ◌then◌, rest, to_end, whole_reads}
 use Rattle.wire.specs.Number.{number, number_of}
 
 -- ---- scheduling, tag 0x01
@@ -60,17 +60,12 @@ abbrev pub tag_in : Unit {0} × ((Unit {0} × ℕ) × List ℕ) → ℕ
 tag_in x = x.1.0.1
 
 -- data_broadcast_id 16, which is 0x000A; association_tag 16, whose high byte is 0 and whose low byte
--- is the tag; private bytes
+-- is a component tag; private bytes
 unfoldable pub location : Whole ℕ
 location = whole_reads tag_in (
     fixed (number 2) 0x000A then λ _.
     (fixed (number 1) 0 & number 1) then λ _.
     rest)
-
--- ---- ssu_subgroup_association, tag 0x0B: 40 bits, and nothing else
-
-unfoldable pub subgroup : Whole ℕ
-subgroup = only (number 5)
 
 -- ---- target MAC address, tag 0x07: mask 48, and matches of 48
 

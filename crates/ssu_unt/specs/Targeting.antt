@@ -1,17 +1,17 @@
 -- Which pairs of a table are for a box, and when: ETSI TS 102 006 9.4 to 9.7.
-use Rattle.std.specs.Prelude.{◌≢◌, ℕ, ◌&&◌, ◌||◌, ◌==◌, if◌then◌else◌, Bool, false, IsTrue, List, [], ◌∷◌, length, take, map, Any, Option, Some, None, is_some, unwrap_or}
+use Rattle.std.specs.Prelude.{◌≢◌, ℕ, ◌&&◌, ◌||◌, ◌==◌, if◌then◌else◌, Bool, false, IsTrue, List, [], ◌∷◌, length}
+use Rattle.std.specs.Prelude.{take, map, Any, Option, Some, None, is_some, unwrap_or}
 use Rattle.std.specs.List.{filter, flat_map, list_any}
 use Rattle.std.specs.Option.{IsSomeAnd}
 use Rattle.std.specs.Str.{bytes_eq}
-use Rattle.si_desc.specs.Descriptors.{DescFields, whole_descriptors}
+use Rattle.si_desc.specs.Descriptors.{DescFields, subgroup_association, whole_descriptors}
 use Rattle.ssu_compat.specs.Compat.{EntryFields}
 use Rattle.ssu_compat.specs.Match.{matches}
 use Rattle.ssu_time.specs.Opening.{IsOpen}
 use Rattle.ssu_time.specs.declared.windows.Window.{Window}
-use Rattle.ssu_unt.specs.Descriptors.{window_of, update_flag, location, subgroup, names_mac}
-use Rattle.ssu_unt.specs.Table.{PairFields, PlatformFields, UntFields, pair}
+use Rattle.ssu_unt.specs.Descriptors.{window_of, update_flag, location, names_mac}
+use Rattle.ssu_unt.specs.Table.{PairFields, PlatformFields, UntFields}
 use Rattle.wire.specs.Format.{◌>>=◌}
-use Rattle.wire.specs.Items.{items_of}
 
 -- what a table asks of a box
 pub record Me : Type 0 where
@@ -65,7 +65,7 @@ names me d = ((d.tag == 0x07) && by_mac me.mac d.body) || ((d.tag == 0x08) && by
 abbrev pub is_for : Me → List ℕ → Bool
 is_for me target = (length target == 0) || list_any (names me) (whole_descriptors target)
 
--- The tag that the first location gives, if it is one of this network's carousels.
+-- The component tag that the first location gives, if the high byte of its association tag is 0.
 unfoldable pub tag_of : List ℕ → List ℕ → Option ℕ
 tag_of common operational = first_of (counting 0x03 common operational) >>= λ bytes. location.of bytes
 
@@ -101,7 +101,7 @@ has_five d = length d.body == 5
 
 unfoldable pub subgroup_of : List ℕ → List ℕ → Option ℕ
 subgroup_of common operational =
-    first_of (filter has_five (counting 0x0B common operational)) >>= λ bytes. subgroup.of bytes
+    first_of (filter has_five (counting 0x0B common operational)) >>= λ bytes. subgroup_association.of bytes
 
 -- what the pair with this operational loop announces
 unfoldable pub entry_of : List ℕ → List ℕ → TargetFields
@@ -119,7 +119,7 @@ chosen me common c = if is_targeted me common c then Some (entry_of common c.pai
 
 -- the pairs of a platform, and of all platforms in their order
 unfoldable pub pairs_in : PlatformFields → List Candidate
-pairs_in p = map (candidate p.compat) (items_of pair p.pairs)
+pairs_in p = map (candidate p.compat) p.pairs
 
 abbrev pub all_pairs : List PlatformFields → List Candidate
 all_pairs ps = flat_map pairs_in ps

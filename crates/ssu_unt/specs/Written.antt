@@ -1,22 +1,20 @@
 -- The table that is written: ETSI TS 102 006 9.4. Reserved bits are ones.
 use Rattle.std.specs.Prelude.{◌≡◌, ℕ, ◌+◌, ◌*◌, ◌/◌, ◌%◌, ◌<◌, ◌^◌, bit_xor, Bool, true, false, if◌then◌else◌, List, [], ◌∷◌, ◌++◌, length}
 use Rattle.section_form.specs.Long.{LongFields}
+use Rattle.section_form.specs.Written.{only_section}
 use Rattle.si_desc.specs.Descriptors.{IsRow}
+use Rattle.si_desc.specs.Written.{row_bytes}
 use Rattle.ssu_compat.specs.Compat.{EntryFields, compat}
 use Rattle.wire.specs.Format.{SpellsEach}
 use Rattle.wire.specs.Number.{bytes_of}
 use Rattle.ssu_unt.specs.Table.{PairFields, PlatformFields, UntFields, pair, platform}
 
--- 4 reserved bits, the length of the row, and the row
-abbrev pub loop_bytes : List ℕ → List ℕ
-loop_bytes row = bytes_of 2 (15 * 2 ^ 12 + length row) ++ row
-
 abbrev pub pair_bytes : List ℕ → List ℕ → List ℕ
-pair_bytes target operational = loop_bytes target ++ loop_bytes operational
+pair_bytes target operational = row_bytes target ++ row_bytes operational
 
 -- processing_order 0
 abbrev pub head_bytes : ℕ → List ℕ → List ℕ
-head_bytes oui common = bytes_of 3 oui ++ bytes_of 1 0 ++ loop_bytes common
+head_bytes oui common = bytes_of 3 oui ++ bytes_of 1 0 ++ row_bytes common
 
 -- the exclusive or of the three bytes
 abbrev pub oui_hash : ℕ → ℕ
@@ -43,7 +41,13 @@ abbrev pub section_length : List ℕ → ℕ
 section_length body = 9 + length body
 
 abbrev pub new_draft : ℕ → ℕ → List ℕ → Draft
-new_draft oui version common = record { oui = oui; version = version; front = head_bytes oui common; pairs = []; begun = false }
+new_draft oui version common = record {
+  oui = oui;
+  version = version;
+  front = head_bytes oui common;
+  pairs = [];
+  begun = false;
+}
 
 abbrev pub with_platform : List ℕ → Draft → Draft
 with_platform compat w = record w { front = body_bytes w ++ compat; pairs = []; begun = true }
@@ -53,23 +57,24 @@ with_pair target operational w = record w { pairs = w.pairs ++ pair_bytes target
 
 -- action_type 1; section 0 of 0
 abbrev pub head_of : Draft → LongFields
-head_of w = record {
-  table = 0x4B;
-  extension = 1 * 256 + oui_hash w.oui;
-  version = w.version;
-  number = 0;
-  last = 0;
-  body = body_bytes w;
-}
+head_of w = only_section 0x4B (1 * 256 + oui_hash w.oui) w.version (body_bytes w)
 
 -- ---- what it stands for
 
 -- the fields of a written table with these platforms
 abbrev pub unt_of : ℕ → List ℕ → List PlatformFields → UntFields
-unt_of oui common platforms = record { action = 1; oui = oui; order = 0; number = 0; last = 0; common = common; platforms = platforms }
+unt_of oui common platforms = record {
+  action = 1;
+  oui = oui;
+  order = 0;
+  number = 0;
+  last = 0;
+  common = common;
+  platforms = platforms;
+}
 
 abbrev pub no_pairs : List EntryFields → PlatformFields
-no_pairs entries = record { compat = entries; pairs = [] }
+no_pairs entries = record { compat = entries; pairs = []; platform_loop = [] }
 
 -- The table so far has that common loop, and platforms: whole ones, and the one that was begun last,
 -- with its pairs.
@@ -80,7 +85,7 @@ pub record HasPlatforms (w : Draft) (common : List ℕ) (platforms : List Platfo
   pub compat_bytes : List ℕ
   pub pairs : List PairFields
   pub front : w.front ≡ head_bytes w.oui common ++ (earlier_bytes ++ compat_bytes)
-  pub all : platforms ≡ earlier ++ record { compat = entries; pairs = w.pairs } ∷ []
+  pub all : platforms ≡ earlier ++ record { compat = entries; pairs = pairs; platform_loop = w.pairs } ∷ []
   pub spelled : SpellsEach platform.Spells earlier earlier_bytes
   pub compat_spelled : compat.Spells entries compat_bytes
   pub pairs_spelled : SpellsEach pair.Spells pairs w.pairs
@@ -91,8 +96,15 @@ pub record IsDraftOf (w : Draft) (common : List ℕ) (platforms : List PlatformF
   pub none : w.begun ≡ false → (w.front ≡ head_bytes w.oui common) × (platforms ≡ [])
   pub some : w.begun ≡ true → HasPlatforms w common platforms
 
--- the pairs of the last platform, with one more
-abbrev pub with_last : List ℕ → List PlatformFields → List PlatformFields
-with_last bytes [] = []
-with_last bytes (p ∷ []) = record p { pairs = p.pairs ++ bytes } ∷ []
-with_last bytes (p ∷ q ∷ ps) = p ∷ with_last bytes (q ∷ ps)
+-- the platform, with one more pair
+abbrev pub with_one : PairFields → PlatformFields → PlatformFields
+with_one one p = record p {
+  pairs = p.pairs ++ one ∷ [];
+  platform_loop = p.platform_loop ++ pair_bytes one.target one.operational;
+}
+
+-- the last platform, with one more pair
+abbrev pub with_last : PairFields → List PlatformFields → List PlatformFields
+with_last one [] = []
+with_last one (p ∷ []) = with_one one p ∷ []
+with_last one (p ∷ q ∷ ps) = p ∷ with_last one (q ∷ ps)

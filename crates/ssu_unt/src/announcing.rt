@@ -3,14 +3,16 @@
 ghost use Rattle.std.specs.Prelude.{◌≡◌, ◌*◌, ◌<◌, ◌^◌, ◌++◌, OnOk, OnErr};
 ghost use Rattle.si_desc.specs.Descriptors.{IsRow};
 ghost use Rattle.ssu_time.specs.UtcTime.{utc_bytes};
-ghost use Rattle.ssu_unt.specs.Announced.{IsLocation, IsScheduling, IsSubgroup, IsUpdate, flag_for, hours_by_turns, hours_window, location_bytes, schedule_flags, scheduling_bytes, subgroup_bytes, update_bytes};
+ghost use Rattle.ssu_unt.specs.Announced.{IsLocation, IsScheduling, IsSubgroup, IsUpdate, flag_for, hours_by_turns};
+ghost use Rattle.ssu_unt.specs.Announced.{hours_window, location_bytes, schedule_flags, scheduling_bytes};
+ghost use Rattle.ssu_unt.specs.Announced.{subgroup_bytes, update_bytes};
 
 use ssu_io::NoMemory;
 use ssu_time::{Utc, write_utc};
 
 /// Appends a scheduling descriptor: the update may be taken from `start` to before `end`. Where
 /// `period_hours` is above 0, it may be taken only in the first `duration_hours` of each period, counted
-/// from `start`; where it is 0, `duration_hours` says nothing.
+/// from `start`; where it is 0, `duration_hours` says nothing. `NoMemory` leaves `out` as it was.
 pub fn put_scheduling(
     out: &mut Vec<u8>,
     start: Utc,
@@ -73,7 +75,8 @@ fn duration_of(period_hours: u8, duration_hours: u8) -> u8
     if period_hours == 0 { 0 } else { duration_hours }
 }
 
-/// Appends an update descriptor: a user has to ask for the update, or it is taken unasked.
+/// Appends an update descriptor: a user has to ask for the update, or it is taken unasked. `NoMemory` leaves `out` as it
+/// was.
 pub fn put_update(out: &mut Vec<u8>, manual: bool) -> Result<(), NoMemory>
     ensures put { OnOk result (out.new.items ≡ out.old.items ++ update_bytes manual) }
     ensures read_back { OnOk result (IsUpdate (flag_for manual) (update_bytes manual)) }
@@ -92,7 +95,8 @@ fn update_flags(manual: bool) -> u8
     if manual { 0 } else { 0x40 }
 }
 
-/// Appends an ssu_location descriptor that leads to the carousel of the component with this tag.
+/// Appends an ssu_location descriptor that leads to the carousel of the component with this tag: an association tag
+/// whose high byte is 0. `NoMemory` leaves `out` as it was.
 pub fn put_ssu_location(out: &mut Vec<u8>, tag: u8) -> Result<(), NoMemory>
     ensures put { OnOk result (out.new.items ≡ out.old.items ++ location_bytes tag) }
     ensures read_back { OnOk result (IsLocation tag (location_bytes tag)) }
@@ -103,7 +107,8 @@ pub fn put_ssu_location(out: &mut Vec<u8>, tag: u8) -> Result<(), NoMemory>
     Ok(())
 }
 
-/// Appends an ssu_subgroup_association descriptor of this number, which is below 2 to the power of 40.
+/// Appends an ssu_subgroup_association descriptor of this number, which is below 2 to the power of 40. `NoMemory` leaves
+/// `out` as it was.
 pub fn put_ssu_subgroup(out: &mut Vec<u8>, subgroup: u64) -> Result<(), NoMemory>
     requires { subgroup < 2 ^ 40 }
     ensures put { OnOk result (out.new.items ≡ out.old.items ++ subgroup_bytes subgroup) }

@@ -5,10 +5,11 @@ ghost use Rattle.std.specs.List.{list_any};
 ghost use Rattle.wire.specs.Items.{items_of};
 ghost use Rattle.wire.specs.Number.{number};
 ghost use Rattle.wire.specs.Read.{Reads};
-ghost use Rattle.ssu_unt.specs.Descriptors.{location, mac_targets, names_mac as names, scheduling, subgroup, turns_if, unit_seconds as seconds_of_unit, update_flag, window_of as window};
+ghost use Rattle.ssu_unt.specs.Descriptors.{location, mac_targets, names_mac as names, scheduling, turns_if};
+ghost use Rattle.ssu_unt.specs.Descriptors.{unit_seconds as seconds_of_unit, update_flag, window_of as window};
 
 use ssu_time::{Window, utc_at};
-use wire::{Item, Items, u8_at, u16_at, u40_at, u48_at};
+use wire::{Item, Items, u8_at, u16_at, u48_at};
 
 /// The window of a scheduling descriptor: one that is never open, where the body is not of its form.
 #[tactic(auto, unfolding(crate::specs::Descriptors::window_of))]
@@ -78,7 +79,7 @@ pub(crate) fn update_flag_of(body: &[u8]) -> Option<u8>
     Some(flags / 64)
 }
 
-/// The tag of an ssu_location descriptor, if it leads to a component of this network's services.
+/// The component tag of an ssu_location descriptor, the low byte of its association tag, if the high byte is 0.
 #[tactic(auto, unfolding(crate::specs::Descriptors::location))]
 pub(crate) fn location_of(body: &[u8]) -> Option<u8>
     ensures { Reads (λ x. x) result (location.of body.now) }
@@ -93,15 +94,6 @@ pub(crate) fn location_of(body: &[u8]) -> Option<u8>
     }
     let (tag, _) = u8_at(rest)?;
     Some(tag)
-}
-
-/// The number of a subgroup association descriptor.
-#[tactic(auto, unfolding(crate::specs::Descriptors::subgroup))]
-pub(crate) fn subgroup_of(body: &[u8]) -> Option<u64>
-    ensures { Reads (λ x. x) result (subgroup.of body.now) }
-{
-    let (number, rest) = u40_at(body)?;
-    if rest.is_empty() { Some(number) } else { None }
 }
 
 /// Whether a target MAC address descriptor names the address: one of its matches equals it in all bits
@@ -122,7 +114,8 @@ struct Match(u64);
 
 impl<'a> Item<'a> for Match {
     ghost use Rattle.std.specs.Prelude.{ℕ, refl};
-    ghost use Rattle.wire.specs.Number.{number, number6};
+    ghost use Rattle.wire.specs.Number.{number};
+    ghost use Rattle.wire.proofs.Numbers.{number6};
 
     ghost Seen = { ℕ };
 

@@ -14,6 +14,3 @@ pub use entry::UntEntry;
 pub use rows::{Pair, Pairs, Platform, Platforms};
 pub use table::Unt;
 pub use writing::UntWriter;
-
-#[cfg(test)]
-mod tests;

@@ -2,10 +2,10 @@
 
 ghost use Rattle.std.specs.Prelude.{◌≡◌};
 ghost use Rattle.wire.specs.Items.{items_of};
-ghost use Rattle.wire.specs.Read.{Reads};
-ghost use Rattle.ssu_unt.specs.Table.{loop_row, pair as pair_format};
+ghost use Rattle.ssu_unt.specs.Table.{pair as pair_format};
+ghost use Rattle.ssu_unt.specs.Views.{platform_view};
 
-use si_desc::row_of;
+use si_desc::row_at;
 use ssu_compat::{Compat, compat_at};
 use wire::{Item, Items, raw_at, u16_at};
 
@@ -36,7 +36,7 @@ pub struct Pair<'a> {
 impl<'a> Platform<'a> {
     /// The pairs, in order.
     pub fn pairs(&self) -> Pairs<'a>
-        ensures { items_of pair_format result ≡ items_of pair_format self.now.pairs.now }
+        ensures { items_of pair_format result ≡ (platform_view self.now).pairs }
     {
         Items::new(self.pairs)
     }
@@ -82,22 +82,12 @@ impl<'a> Item<'a> for Pair<'a> {
 
     #[tactic(auto, unfolding(crate::specs::Table::pair))]
     fn at(bytes: &'a [u8]) -> Option<(Self, &'a [u8])> {
-        let (target, rest) = loop_at(bytes)?;
-        let (operational, rest) = loop_at(rest)?;
+        let (target, rest) = row_at(bytes)?;
+        let (operational, rest) = row_at(rest)?;
         let pair = Pair {
             target,
             operational,
         };
         Some((pair, rest))
     }
-}
-
-/// A loop of descriptors behind its length of 12 bits, and the bytes behind it.
-#[tactic(auto, unfolding(crate::specs::Table::loop_row))]
-pub(crate) fn loop_at(bytes: &[u8]) -> Option<(&[u8], &[u8])>
-    ensures { Reads (λ x. (x.0.now, x.1.now)) result (loop_row.at bytes.now) }
-{
-    let (len, rest) = u16_at(bytes)?;
-    let (inside, rest) = raw_at(rest, (len % 4096) as usize)?;
-    Some((row_of(inside)?, rest))
 }

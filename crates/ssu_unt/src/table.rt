@@ -7,8 +7,9 @@ ghost use Rattle.wire.specs.Read.{Reads};
 ghost use Rattle.ssu_unt.specs.Table.{UntFields, body, platform, unt};
 ghost use Rattle.ssu_unt.specs.Views.{unt_view};
 
-use crate::rows::{Platforms, loop_at};
+use crate::rows::Platforms;
 use section_form::long;
+use si_desc::row_at;
 use ssu_compat::Oui;
 use wire::{Items, u8_at, u24_at};
 
@@ -86,7 +87,7 @@ fn body_in(bytes: &[u8]) -> Option<Body<'_>>
 {
     let (oui, rest) = u24_at(bytes)?;
     let (order, rest) = u8_at(rest)?;
-    let (common, rest) = loop_at(rest)?;
+    let (common, rest) = row_at(rest)?;
     let oui = Oui::new(oui)?;
     Some(Body {
         oui,

@@ -3,16 +3,18 @@
 ghost use Rattle.std.specs.Prelude.{◌≡◌, ◌≤◌, ◌∷◌, [], ◌++◌, length, map, take};
 ghost use Rattle.std.specs.Option.{option_map};
 ghost use Rattle.si_desc.specs.Descriptors.{whole_descriptors};
-ghost use Rattle.ssu_unt.specs.Targeting.{candidate, chosen, counting, entry_of, first_of, is_for as targets_box, is_manual as manual_of, names as names_box, pairs_in, subgroup_of as subgroup, tag_of as tag, targeted, targets, windows_of as windows, with_tag};
+ghost use Rattle.ssu_unt.specs.Targeting.{candidate, chosen, counting, entry_of, first_of, is_for as targets_box};
+ghost use Rattle.ssu_unt.specs.Targeting.{is_manual as manual_of, names as names_box, pairs_in, subgroup_of};
+ghost use Rattle.ssu_unt.specs.Targeting.{tag_of as tag, targeted, targets, windows_of as windows, with_tag};
 ghost use Rattle.ssu_unt.specs.Views.{entry_view, me_view, pair_view, platform_view, unt_view};
 ghost use Rattle.si_desc.specs.Views.{desc_view};
 
-use crate::descriptors::{location_of, names_mac, subgroup_of, update_flag_of, window_of};
+use crate::descriptors::{location_of, names_mac, update_flag_of, window_of};
 use crate::entry::UntEntry;
 use crate::rows::{Pair, Platform};
 use crate::table::Unt;
 use arrayvec::ArrayVec;
-use si_desc::{Desc, DescRow, first};
+use si_desc::{Desc, DescRow, first, subgroup};
 use ssu_compat::{BoxId, Compat};
 use ssu_time::Window;
 use wire::Items;
@@ -194,12 +196,12 @@ fn add_window(windows: &mut ArrayVec<Window, 4>, window: Window)
 
 #[tactic(auto, unfolding(crate::specs::Targeting::subgroup_of))]
 fn subgroup_in(common: &[u8], operational: &[u8]) -> Option<u64>
-    ensures { result ≡ subgroup common.now operational.now }
+    ensures { result ≡ subgroup_of common.now operational.now }
 {
     let descs: DescRow<'_> = Items::new(counting_loop(common, operational, SUBGROUP));
     for desc in descs {
         if desc.tag == SUBGROUP && desc.body.len() == 5 {
-            return subgroup_of(desc.body);
+            return subgroup(desc.body);
         }
     }
     None

@@ -6,10 +6,11 @@ ghost use Rattle.section_form.specs.Written.{long_bytes};
 ghost use Rattle.si_desc.specs.Descriptors.{IsRow};
 ghost use Rattle.ssu_compat.specs.Compat.{EntryFields, compat as compat_format};
 ghost use Rattle.ssu_unt.specs.Table.{PlatformFields, unt};
-ghost use Rattle.wire.specs.Number.{bytes_of};
-ghost use Rattle.ssu_unt.specs.Written.{IsDraftOf, body_bytes, head_bytes, head_of, loop_bytes, last_bytes, new_draft, no_pairs, oui_hash, pair_bytes, section_length, unt_of, with_last, with_pair, with_platform};
+ghost use Rattle.ssu_unt.specs.Written.{IsDraftOf, body_bytes, head_bytes, head_of, last_bytes, new_draft, no_pairs};
+ghost use Rattle.ssu_unt.specs.Written.{oui_hash, section_length, unt_of, with_last, with_pair, with_platform};
 
-use section_form::{LongForm, MakeFault, long_section};
+use section_form::{MakeFault, table_section};
+use si_desc::put_row;
 use ssu_compat::Oui;
 use ssu_io::NoMemory;
 use std::alloc::{AllocError, Global};
@@ -50,7 +51,9 @@ impl Model for UntWriter {
 }
 
 impl UntWriter {
-    /// A table of system software updates for the OUI, with processing_order 0 and no platform yet.
+    /// A table of system software updates for the OUI, of a version below 32, with processing_order 0 and no platform
+    /// yet. `common` is a row of whole descriptors. `TooLong` comes exactly where section_length would pass 4,093,
+    /// `Memory` where memory runs out.
     pub fn new(alloc: Global, oui: Oui, version: u8, common: &[u8]) -> Result<UntWriter, MakeFault>
         requires version { version < 32 }
         requires row { IsRow common.now }
@@ -83,7 +86,8 @@ impl UntWriter {
         })
     }
 
-    /// Begins a platform for these boxes, which has no pair yet.
+    /// Begins a platform for the boxes of this compatibility descriptor, which has no pair yet. `TooLong` comes exactly
+    /// where section_length would pass 4,093, `Memory` where memory runs out; the writer is then unchanged.
     pub fn platform(&mut self, compat: &[u8]) -> Result<(), MakeFault>
         requires { (entries : List EntryFields) × compat_format.Spells entries compat.now }
         ensures begun { OnOk result (self.new ≡ with_platform compat.now self.old) }
@@ -115,7 +119,8 @@ impl UntWriter {
         Ok(())
     }
 
-    /// Adds a pair to the platform that was begun last.
+    /// Adds a pair of rows of whole descriptors to the platform that was begun last. `TooLong` comes exactly where
+    /// section_length would pass 4,093, `Memory` where memory runs out; the writer is then unchanged.
     pub fn pair(&mut self, target: &[u8], operational: &[u8]) -> Result<(), MakeFault>
         requires begun { IsTrue self.old.begun }
         requires target { IsRow target.now }
@@ -124,7 +129,7 @@ impl UntWriter {
         ensures table { (common : List ℕ) (platforms : List PlatformFields)
             → IsDraftOf self.old common platforms
             → OnOk result (IsDraftOf self.new common
-            (with_last (pair_bytes target.now operational.now) platforms)) }
+            (with_last (record { target = target.now; operational = operational.now }) platforms)) }
         ensures unchanged { OnErr result (self.new ≡ self.old) }
         ensures too_long { (result ≡ Err MakeFault.TooLong)
             ↔ (4093 < section_length (body_bytes self.old) + (length target.now + length operational.now + 4)) }
@@ -148,13 +153,13 @@ impl UntWriter {
             return Err(MakeFault::TooLong);
         }
         let mut piece = Vec::new(self.alloc);
-        put_loop(&mut piece, target)?;
-        put_loop(&mut piece, operational)?;
+        put_row(&mut piece, target)?;
+        put_row(&mut piece, operational)?;
         self.pairs.extend_from_slice(&piece)?;
         Ok(())
     }
 
-    /// The section. Where memory is wanting, the writer comes back as it was.
+    /// The section. `NoMemory` is the one refusal, and hands the writer back as it was.
     pub fn finish(self) -> Result<Vec<u8>, (UntWriter, NoMemory)>
         ensures bytes { IfOk result (λ s. s.items ≡ long_bytes true (head_of self)) }
         ensures read_back { (common : List ℕ) (platforms : List PlatformFields)
@@ -176,15 +181,8 @@ impl UntWriter {
         ensures small { OnOk result (length self.now.pairs < 2 ^ 16) }
     {
         let body = self.body()?;
-        let head = LongForm {
-            table: 0x4B,
-            extension: 0x100 + hash_of(self.oui),
-            version: self.version,
-            number: 0,
-            last: 0,
-            body: &body,
-        };
-        long_section(self.alloc, head, true)
+        let extension = 0x100 + hash_of(self.oui);
+        table_section(self.alloc, 0x4B, extension, self.version, &body, true)
     }
 
     fn body(&self) -> Result<Vec<u8>, NoMemory>
@@ -219,24 +217,15 @@ impl UntWriter {
     }
 }
 
-fn head_of_table(alloc: Global, oui: Oui, common: &[u8]) -> Result<Vec<u8>, AllocError>
+fn head_of_table(alloc: Global, oui: Oui, common: &[u8]) -> Result<Vec<u8>, NoMemory>
     requires { length common.now < 4096 }
     ensures { IfOk result (λ v. v.items ≡ head_bytes oui common.now) }
 {
     let mut head = Vec::new(alloc);
     put_u24(&mut head, oui.get())?;
     put_u8(&mut head, 0)?;
-    put_loop(&mut head, common)?;
+    put_row(&mut head, common)?;
     Ok(head)
-}
-
-// A loop behind its length of 12 bits.
-fn put_loop(out: &mut Vec<u8>, row: &[u8]) -> Result<(), AllocError>
-    requires { length row.now < 4096 }
-    ensures { OnOk result (out.new.items ≡ out.old.items ++ loop_bytes row.now) }
-{
-    put_u16(out, 0xF000 + row.len() as u16)?;
-    out.extend_from_slice(row)
 }
 
 // OUI_hash: the exclusive or of the three bytes.

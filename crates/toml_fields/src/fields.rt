@@ -2,30 +2,33 @@
 ghost use Rattle.std.specs.Prelude.{◌≡◌, ◌+◌, ◌≤◌, ◌++◌, length, Option, Some, None, IfOk, IfSome, option_map};
 ghost use Rattle.toml.specs.View.{view, array_view, table_view};
 ghost use Rattle.toml_fields.specs.Reading.{named, seen};
-ghost use Rattle.toml_fields.specs.Place.{place, find_field, number, optional_number, optional_flag, text, optional_text, optional_table, array, optional_array, tables, tables_in};
+ghost use Rattle.toml_fields.specs.Place.{place, find_field, number, optional_number, optional_flag, text};
+ghost use Rattle.toml_fields.specs.Place.{optional_text, optional_table, array, optional_array, tables, tables_in};
 
 use crate::naming::{FieldName, field_name};
 use crate::values::{are_tables, whole_number};
 use toml::value::Array;
 use toml::{Table, Value};
 
-/// A table of a file, whose fields are read by their names. Keys that are not asked for are passed
-/// over. A field that is bad is named with `prefix` before it.
+/// A table of a file, whose fields are read by their names. Keys that are not asked for are passed over. A field that
+/// is bad is named with `prefix` before it, in 32 bytes together at most.
 #[derive(Clone, Copy)]
 pub struct Fields<'a> {
+    /// The table whose fields are read.
     pub table: &'a Table,
+    /// What stands before the name of a bad field, as `group.0.`.
     pub prefix: &'a str,
 }
 
 impl<'a> Fields<'a> {
-    /// The value of a field.
+    /// The value of a field. `None` comes exactly where the field is missing.
     pub fn find(&self, name: &str) -> Option<&'a Value>
         ensures { option_map (λ v. view v.now) result ≡ find_field (place self.now) name.now }
     {
         self.table.get(name)
     }
 
-    /// The name of a bad field.
+    /// The name of a bad field: `name` behind the prefix, 32 bytes together at most.
     pub fn bad(&self, name: &str) -> FieldName
         requires { length self.now.prefix.now + length name.now ≤ 32 }
         ensures { result.bytes ≡ self.now.prefix.now ++ name.now }
@@ -33,7 +36,8 @@ impl<'a> Fields<'a> {
         field_name(self.prefix, name)
     }
 
-    /// A whole number from `least` to `most`.
+    /// A whole number from `least` to `most`. The name of the field comes exactly where it is missing, or no such
+    /// number.
     pub fn number(&self, name: &str, least: u64, most: u64) -> Result<u64, FieldName>
         requires { length self.now.prefix.now + length name.now ≤ 32 }
         ensures value { named result ≡ number (place self.now) name.now least most }
@@ -46,7 +50,8 @@ impl<'a> Fields<'a> {
         }
     }
 
-    /// A whole number from `least` to `most`, or None where the field is missing.
+    /// A whole number from `least` to `most`, or None where the field is missing. The name of the field comes exactly
+    /// where it is there and is no such number.
     pub fn optional_number(
         &self,
         name: &str,
@@ -67,7 +72,8 @@ impl<'a> Fields<'a> {
         }
     }
 
-    /// True or false, or None where the field is missing.
+    /// True or false, or None where the field is missing. The name of the field comes exactly where it is there and
+    /// is neither.
     pub fn optional_flag(&self, name: &str) -> Result<Option<bool>, FieldName>
         requires { length self.now.prefix.now + length name.now ≤ 32 }
         ensures { named result ≡ optional_flag (place self.now) name.now }
@@ -81,7 +87,7 @@ impl<'a> Fields<'a> {
         }
     }
 
-    /// A text.
+    /// A text. The name of the field comes exactly where it is missing, or no text.
     pub fn text(&self, name: &str) -> Result<&'a str, FieldName>
         requires { length self.now.prefix.now + length name.now ≤ 32 }
         ensures { seen (λ t. t.now) result ≡ text (place self.now) name.now }
@@ -92,7 +98,8 @@ impl<'a> Fields<'a> {
         }
     }
 
-    /// A text, or None where the field is missing.
+    /// A text, or None where the field is missing. The name of the field comes exactly where it is there and is no
+    /// text.
     pub fn optional_text(&self, name: &str) -> Result<Option<&'a str>, FieldName>
         requires { length self.now.prefix.now + length name.now ≤ 32 }
         ensures { seen (option_map (λ t. t.now)) result ≡ optional_text (place self.now) name.now }
@@ -106,7 +113,8 @@ impl<'a> Fields<'a> {
         }
     }
 
-    /// A table, or None where the field is missing.
+    /// A table, or None where the field is missing. The name of the field comes exactly where it is there and is no
+    /// table.
     pub fn optional_table(&self, name: &str) -> Result<Option<&'a Table>, FieldName>
         requires { length self.now.prefix.now + length name.now ≤ 32 }
         ensures { seen (option_map (λ t. table_view t.now)) result ≡ optional_table (place self.now) name.now }
@@ -120,7 +128,7 @@ impl<'a> Fields<'a> {
         }
     }
 
-    /// An array.
+    /// An array. The name of the field comes exactly where it is missing, or no array.
     pub fn array(&self, name: &str) -> Result<&'a Array, FieldName>
         requires { length self.now.prefix.now + length name.now ≤ 32 }
         ensures { seen (λ a. array_view a.now) result ≡ array (place self.now) name.now }
@@ -131,7 +139,8 @@ impl<'a> Fields<'a> {
         }
     }
 
-    /// An array, or None where the field is missing.
+    /// An array, or None where the field is missing. The name of the field comes exactly where it is there and is no
+    /// array.
     pub fn optional_array(&self, name: &str) -> Result<Option<&'a Array>, FieldName>
         requires { length self.now.prefix.now + length name.now ≤ 32 }
         ensures { seen (option_map (λ a. array_view a.now)) result ≡ optional_array (place self.now) name.now }
@@ -145,7 +154,8 @@ impl<'a> Fields<'a> {
         }
     }
 
-    /// An array of `least` to `most` items, each of which is a table.
+    /// An array of `least` to `most` items, each of which is a table. The name of the field comes exactly where it is
+    /// missing, no array, too short or too long, or has an item that is no table.
     pub fn tables(&self, name: &str, least: usize, most: usize) -> Result<&'a Array, FieldName>
         requires { length self.now.prefix.now + length name.now ≤ 32 }
         ensures value { seen (λ a. tables_in (array_view a.now)) result ≡ tables (place self.now) name.now least most }

@@ -10,6 +10,3 @@ pub use document::{DocumentFault, read_document};
 pub use fields::Fields;
 pub use naming::{FieldName, field_name, item_prefix};
 pub use values::{are_tables, is_each_table, whole_number};
-
-#[cfg(test)]
-mod tests;

@@ -6,8 +6,8 @@ ghost use Rattle.toml_fields.specs.Place.{whole_in, each_is_table, are_tables, t
 use toml::Value;
 use toml::value::Array;
 
-/// The whole number that the value is, if it lies from `least` to `most`. A float and a text are
-/// no whole numbers.
+/// The whole number that the value is. `None` comes exactly where it does not lie from `least` to `most`, or the
+/// value is no whole number, as a float or a text.
 pub fn whole_number(value: &Value, least: u64, most: u64) -> Option<u64>
     ensures { result ≡ whole_in least most (view value.now) }
 {

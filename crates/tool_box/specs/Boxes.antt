@@ -4,7 +4,7 @@ use Rattle.box_file.specs.BoxText.{box_of}
 use Rattle.box_file.specs.declared.file.BoxFile.{BoxFile}
 use Rattle.box_file.specs.declared.file.BoxFault.{BoxFault}
 use Rattle.box_file.specs.declared.file.BoxFault.TheVariants.{Field, Memory}
-use Rattle.ssu_shelf.specs.Files.{File, Has}
+use Rattle.ssu_io.specs.Files.{File, Has}
 use Rattle.ssu_status.specs.declared.status.Status.{Status}
 use Rattle.ssu_status.specs.declared.status.Status.TheVariants.{Absent, BoxRefused, NoMemory, ShelfFault}
 

@@ -1,9 +1,9 @@
 -- What a command is told of a file.
 use Rattle.std.specs.Prelude.{◌≡◌, ◌↔◌, ℕ, List, Option, Some, None, Result, Ok, Err}
 use Rattle.arrayvec.specs.ArrayString.{ArrayString}
-use Rattle.ssu_shelf.specs.Files.{File, bytes_of}
-use Rattle.ssu_shelf.specs.declared.shelf.ShelfError.{ShelfError}
-use Rattle.ssu_shelf.specs.declared.shelf.ShelfError.TheVariants.{Absent as NoFile, Failed, Memory}
+use Rattle.ssu_io.specs.Files.{File, bytes_of}
+use Rattle.ssu_io.specs.declared.shelf.ShelfError.{ShelfError}
+use Rattle.ssu_io.specs.declared.shelf.ShelfError.TheVariants.{Absent as NoFile, Failed, Memory}
 use Rattle.ssu_status.specs.declared.status.Status.{Status}
 use Rattle.ssu_status.specs.declared.status.Status.TheVariants.{Absent, NoMemory, ShelfFault}
 
@@ -46,3 +46,21 @@ HasNone None name = ⊥
 abbrev pub SaysAbsent : List ℕ → Status → Type 0
 SaysAbsent name (Absent told) = told.bytes ≡ name
 SaysAbsent name other = ⊥
+
+-- the same, where no fault and no want of memory came before
+abbrev pub SaysAbsentOrFails : List ℕ → Status → Type 0
+SaysAbsentOrFails name ShelfFault = Unit {0}
+SaysAbsentOrFails name NoMemory = Unit {0}
+SaysAbsentOrFails name other = SaysAbsent name other
+
+-- the answer is an error, of which this holds
+abbrev pub IsErrWith : {T : Type 0} → (Status → Type 0) → Result T Status → Type 0
+IsErrWith P (Ok value) = ⊥
+IsErrWith P (Err status) = P status
+
+-- the answer is this value, or that of a fault of the shelf or of want of memory
+abbrev pub IsValueOrFails : {T : Type 0} → T → Result T Status → Type 0
+IsValueOrFails value (Ok found) = found ≡ value
+IsValueOrFails value (Err ShelfFault) = Unit {0}
+IsValueOrFails value (Err NoMemory) = Unit {0}
+IsValueOrFails value (Err other) = ⊥

@@ -1,15 +1,17 @@
 //! The box of `box.toml`.
-ghost use Rattle.std.specs.Prelude.{◌≡◌, ◌≤◌, Ok, Err, IfOk, IfErr};
+ghost use Rattle.std.specs.Prelude.{◌≡◌, ◌≤◌, Ok, Err, IfOk, IfErr, IsSome};
 ghost use Rattle.box_file.specs.BoxText.{box_of};
+ghost use Rattle.box_file.specs.declared.file.BoxFile.{BoxFile};
 ghost use Rattle.ssu_io.specs.Faults.{Rose};
 ghost use Rattle.ssu_status.specs.Status.{OnAbsent, OnBoxRefused, OnShelfFault};
-ghost use Rattle.tool_box.specs.Boxes.{IsBoxRefusal, IsTextRefusal, RefusesBox, TellsBox, box_name as name_of_box, text_refusal};
-ghost use Rattle.tool_box.specs.Fetching.{TellsAbsence};
+ghost use Rattle.tool_box.specs.Boxes.{IsBoxRefusal, IsTextRefusal, RefusesBox, TellsBox, box_name as name_of_box};
+ghost use Rattle.tool_box.specs.Boxes.{text_refusal};
+ghost use Rattle.tool_box.specs.Fetching.{IsValueOrFails, TellsAbsence};
 
 use crate::fetching::fetch;
 use box_file::{BoxFault, BoxFile};
 use ssu_answer::FileName;
-use ssu_shelf::Shelf;
+use ssu_io::Shelf;
 use ssu_status::Status;
 use std::alloc::Global;
 
@@ -21,6 +23,8 @@ use std::alloc::Global;
 /// field of the file, and `NoMemory`.
 pub fn read_box<H: Shelf>(alloc: Global, shelf: &mut H) -> Result<BoxFile, Status>
     ensures found { IfOk result (λ b. TellsBox (H.held shelf.old) b) }
+    // Where the shelf tells its files and has a box, that box is found but for a fault of the shelf or want of memory.
+    ensures told { (b : BoxFile) → IsSome (H.held shelf.old) → TellsBox (H.held shelf.old) b → IsValueOrFails b result }
     // `Absent` comes exactly where the shelf has no box.toml, where it tells its files, and with that name.
     ensures absent { TellsAbsence (H.held shelf.old) name_of_box result }
     ensures absent_name { IfErr result (λ status. OnAbsent status (λ told. told ≡ name_of_box)) }

@@ -1,12 +1,12 @@
 //! A file by its name.
 ghost use Rattle.std.specs.Prelude.{◌≡◌, ◌≤◌, IfOk, IfErr};
 ghost use Rattle.ssu_io.specs.Faults.{Rose};
-ghost use Rattle.ssu_shelf.specs.Files.{Has};
+ghost use Rattle.ssu_io.specs.Files.{Has};
 ghost use Rattle.ssu_status.specs.Status.{OnAbsent, OnShelfFault};
 ghost use Rattle.tool_box.specs.Fetching.{IsFetchRefusal, TellsAbsence, refusal_of};
 
 use ssu_answer::FileName;
-use ssu_shelf::{Shelf, ShelfError};
+use ssu_io::{Shelf, ShelfError};
 use ssu_status::Status;
 use std::alloc::Global;
 

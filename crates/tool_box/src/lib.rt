@@ -4,8 +4,6 @@
 
 mod box_text;
 mod fetching;
-#[cfg(test)]
-mod tests;
 
 pub use box_text::read_box;
 pub use fetching::fetch;

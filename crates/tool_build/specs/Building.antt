@@ -1,15 +1,17 @@
 -- What `build` puts: the packets of the plan's turns, and a line that counts them.
-use Rattle.std.specs.Prelude.{◌≡◌, ◌⊎◌, ℕ, List, Option, length}
+use Rattle.std.specs.Prelude.{ℕ, List, Option, length}
 use Rattle.std.specs.List.{concat}
 use Rattle.head_carousel.specs.Refusal.{IsBuildable}
 use Rattle.head_carousel.specs.Sections.{sections_of}
 use Rattle.head_mux.specs.Sent.{sent}
 use Rattle.head_plan.specs.Plans.{PlanData}
-use Rattle.ssu_io.specs.Bytes.{Gains, GainsPrefix}
+use Rattle.ssu_io.specs.Bytes.{Gains}
 use Rattle.ssu_line.specs.Lines.{built_line}
-use Rattle.ssu_shelf.specs.Files.{File}
+use Rattle.ssu_io.specs.Files.{File}
+use Rattle.ssu_io.specs.Seen.{SinkSeen, StopsWriting}
 use Rattle.ssu_status.specs.declared.status.Status.{Status}
-use Rattle.ssu_status.specs.declared.status.Status.TheVariants.{Done, Absent, ShelfFault, PlanRefused, BuildRefused, WriteFault, NoMemory}
+use Rattle.ssu_status.specs.declared.status.Status.TheVariants.{Done, Absent, ShelfFault, PlanRefused, BuildRefused}
+use Rattle.ssu_status.specs.declared.status.Status.TheVariants.{WriteFault, NoMemory}
 use Rattle.tool_build.specs.Held.{TellsBroadcast}
 
 -- the packets of all turns
@@ -20,39 +22,37 @@ packets_of plan images = sent (sections_of plan images) plan.turns
 abbrev pub line_of : PlanData → List (List ℕ) → List ℕ
 line_of plan images = built_line (length (sections_of plan images)) (length (packets_of plan images))
 
--- All packets come before the line: one sink got a prefix of them and the other nothing, or all of them and the other a
--- prefix of the line.
-abbrev pub PutsPrefix : (made made_after got got_after : Option (List ℕ)) (packets : List (List ℕ)) (line : List ℕ) → Type 0
-PutsPrefix made made_after got got_after packets line =
-    (GainsPrefix made made_after (concat packets) × (got_after ≡ got)) ⊎ (Gains made made_after (concat packets) × GainsPrefix got got_after line)
-
--- The shelf has a plan and its files, which pass no limit, the made file got their packets, and the output got the line.
-pub record Builds (held : Option (List File)) (made made_after got got_after : Option (List ℕ)) : Type 0 where
+-- The shelf has a plan and its files, which pass no limit, and this holds of them.
+pub record ForBroadcast (held : Option (List File)) (Fact : PlanData → List (List ℕ) → Type 0) : Type 0 where
   pub plan : PlanData
   pub images : List (List ℕ)
   pub broadcast : TellsBroadcast held plan images
   pub buildable : IsBuildable plan images
-  pub packets : Gains made made_after (concat (packets_of plan images))
-  pub line : Gains got got_after (line_of plan images)
+  pub fact : Fact plan images
 
--- The same, where it ended after a part of the packets, or after them and a part of the line.
-pub record BuildsPrefix (held : Option (List File)) (made made_after got got_after : Option (List ℕ)) : Type 0 where
-  pub plan : PlanData
-  pub images : List (List ℕ)
-  pub broadcast : TellsBroadcast held plan images
-  pub buildable : IsBuildable plan images
-  pub puts : PutsPrefix made made_after got got_after (packets_of plan images) (line_of plan images)
+-- all packets went out, and the line behind them
+abbrev pub PutsAll : SinkSeen → SinkSeen → PlanData → List (List ℕ) → Type 0
+PutsAll made out plan images =
+    Gains made.got made.got_after (concat (packets_of plan images)) × Gains out.got out.got_after (line_of plan images)
+
+-- a write failed on the way
+abbrev pub PutsPart : SinkSeen → SinkSeen → PlanData → List (List ℕ) → Type 0
+PutsPart made out plan images = StopsWriting made out (concat (packets_of plan images)) (line_of plan images)
+
+-- what the command answers once the files were read
+abbrev pub IsPutAnswer : Status → Type 0
+IsPutAnswer Done = Unit {0}
+IsPutAnswer (BuildRefused fault) = Unit {0}
+IsPutAnswer WriteFault = Unit {0}
+IsPutAnswer NoMemory = Unit {0}
+IsPutAnswer other = ⊥
 
 -- what the command answers
 abbrev pub IsAnswer : Status → Type 0
-IsAnswer Done = Unit {0}
 IsAnswer (Absent name) = Unit {0}
 IsAnswer ShelfFault = Unit {0}
 IsAnswer (PlanRefused field) = Unit {0}
-IsAnswer (BuildRefused fault) = Unit {0}
-IsAnswer WriteFault = Unit {0}
-IsAnswer NoMemory = Unit {0}
-IsAnswer other = ⊥
+IsAnswer other = IsPutAnswer other
 
 -- the status comes before the first packet is put
 abbrev pub IsEarly : Status → Type 0

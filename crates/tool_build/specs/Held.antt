@@ -4,7 +4,7 @@ use Rattle.head_plan.specs.Plans.{PlanData, mentions}
 use Rattle.head_plan.specs.PlanText.{plan_of}
 use Rattle.ssu_answer.specs.declared.build_fault.BuildFault.{BuildFault}
 use Rattle.ssu_answer.specs.declared.build_fault.BuildFault.TheVariants.{ImageTooLong, TooManySections, Memory}
-use Rattle.ssu_shelf.specs.Files.{File, Has}
+use Rattle.ssu_io.specs.Files.{File, Has}
 use Rattle.tool_box.specs.Fetching.{Lacks}
 use Rattle.head_carousel.specs.Refusal.{IsCause}
 

@@ -1,3 +1,4 @@
 pub mod Building
+pub mod Does
 pub mod Held
 pub mod Refusals

@@ -2,9 +2,11 @@
 use Rattle.head_plan.specs.declared.fault.PlanFault.{PlanFault}
 use Rattle.head_plan.specs.declared.fault.PlanFault.TheVariants.{Field, Memory}
 use Rattle.ssu_answer.specs.declared.build_fault.BuildFault.{BuildFault}
-use Rattle.ssu_answer.specs.declared.build_fault.BuildFault.TheVariants.{ImageTooLong, TooManySections, Memory as BuildMemory}
+use Rattle.ssu_answer.specs.declared.build_fault.BuildFault.TheVariants.{ImageTooLong, TooManySections}
+use Rattle.ssu_answer.specs.declared.build_fault.BuildFault.TheVariants.{Memory as BuildMemory}
 use Rattle.ssu_status.specs.declared.status.Status.{Status}
-use Rattle.ssu_status.specs.declared.status.Status.TheVariants.{Absent, BuildRefused, NoMemory, PlanRefused, ShelfFault, WriteFault}
+use Rattle.ssu_status.specs.declared.status.Status.TheVariants.{Absent, BuildRefused, NoMemory, PlanRefused, ShelfFault}
+use Rattle.ssu_status.specs.declared.status.Status.TheVariants.{WriteFault}
 
 -- a plan was not had for one of these reasons
 abbrev pub IsPlanRefusal : Status → Type 0

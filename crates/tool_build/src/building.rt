@@ -1,5 +1,5 @@
 //! The command: from `plan.toml` and its files to packets.
-ghost use Rattle.std.specs.Prelude.{◌≡◌, ◌≤◌, ◌⊎◌, ℕ, List, IfErr, IfOk, OnOk, length, map};
+ghost use Rattle.std.specs.Prelude.{◌≡◌, ◌≤◌, ◌⊎◌, ℕ, List, Option, IfErr, IfOk, IsSome, OnOk, length, map};
 ghost use Rattle.std.specs.List.{All, concat};
 ghost use Rattle.head_carousel.specs.Refusal.{IsBuildable, IsCause};
 ghost use Rattle.head_carousel.specs.Sections.{sections_of};
@@ -8,12 +8,16 @@ ghost use Rattle.head_plan.specs.Plans.{mentions};
 ghost use Rattle.ssu_answer.specs.declared.build_fault.BuildFault.{BuildFault};
 ghost use Rattle.ssu_io.specs.Bytes.{Gains};
 ghost use Rattle.ssu_io.specs.Faults.{Rose};
+ghost use Rattle.ssu_io.specs.Files.{File};
+ghost use Rattle.ssu_io.specs.Seen.{StopsWriting, shelf_seen, sink_seen};
 ghost use Rattle.ssu_line.specs.Lines.{built_line};
-ghost use Rattle.ssu_status.specs.Status.{OnAbsent, OnBuildRefused, OnDone, OnNoMemory, OnPlanRefused, OnShelfFault, OnWriteFault};
-ghost use Rattle.tool_build.specs.Building.{Builds, BuildsPrefix, IsAnswer, IsEarly, IsUnrefused, PutsPrefix};
-ghost use Rattle.tool_build.specs.Held.{IsLimit, LacksMention, RefusesBuild, RefusesPlan, plan_name};
-ghost use Rattle.tool_build.specs.Refusals.{IsMakingRefusal, IsSendingRefusal, making_refusal};
-ghost use Rattle.tool_box.specs.Fetching.{HasNone, Lacks, SaysAbsent};
+ghost use Rattle.ssu_status.specs.Status.{OnAbsent, OnBuildRefused, OnDone, OnNoMemory, OnPlanRefused, OnShelfFault};
+ghost use Rattle.ssu_status.specs.Status.{OnWriteFault};
+ghost use Rattle.tool_box.specs.Fetching.{HasNone, IsErrWith, Lacks, SaysAbsent, SaysAbsentOrFails};
+ghost use Rattle.tool_build.specs.Building.{ForBroadcast, IsEarly, IsPutAnswer, IsUnrefused, PutsAll, PutsPart};
+ghost use Rattle.tool_build.specs.Does.{BuildDoes};
+ghost use Rattle.tool_build.specs.Held.{IsLimit, LacksMention, RefusesBuild, RefusesPlan, TellsBroadcast, plan_name};
+ghost use Rattle.tool_build.specs.Refusals.{IsMakingRefusal, IsPlanRefusal, IsSendingRefusal, making_refusal};
 
 use crate::images::read_images;
 use crate::plan_text::read_plan;
@@ -21,62 +25,94 @@ use head_carousel::sections;
 use head_mux::{MuxFault, mux};
 use head_plan::Plan;
 use ssu_answer::BuildFault;
-use ssu_io::{Failed, Sink};
+use ssu_io::{Failed, Shelf, Sink};
 use ssu_line::built;
-use ssu_shelf::Shelf;
 use ssu_status::Status;
 use std::alloc::Global;
-use timed_section::Timed;
+use ts_section::Timed;
 
 /// Reads `plan.toml` and the files that it mentions, puts the packets of the plan's turns into `made`, and prints
-/// `sections N packets P`.
+/// `sections N packets P` into `out`.
+///
+/// `Done`; in this order `Absent`, `ShelfFault` and `PlanRefused` with the first bad field for `plan.toml`, `Absent` and
+/// `ShelfFault` file by file, and `BuildRefused` where a file needs more than 65,536 blocks or the sections are more than
+/// 65,536, with `NoMemory` among them, all before the first packet; `WriteFault` where `made` or `out` failed.
 pub fn build<H: Shelf, W: Sink, T: Sink>(
     alloc: Global,
     shelf: &mut H,
     made: &mut W,
     out: &mut T,
 ) -> Status
-    ensures done { OnDone result (Builds (H.held shelf.old) (W.contents made.old) (W.contents made.new) (T.contents out.old) (T.contents out.new)) }
-    ensures write_fault { OnWriteFault result (BuildsPrefix (H.held shelf.old) (W.contents made.old) (W.contents made.new) (T.contents out.old) (T.contents out.new)) }
-    ensures write_cause { OnWriteFault result (Rose (W.faults made.old) (W.faults made.new) ⊎ Rose (T.faults out.old) (T.faults out.new)) }
-    // Each other answer comes before the first packet is put.
-    ensures early_made { IsEarly result → made.new ≡ made.old }
-    ensures early_out { IsEarly result → out.new ≡ out.old }
+    ensures does { BuildDoes result (shelf_seen H.Shelf shelf.old shelf.new) (sink_seen W.Sink made.old made.new)
+        (sink_seen T.Sink out.old out.new) }
+{
+    match read_broadcast(alloc, shelf) {
+        Ok(broadcast) => put_broadcast(alloc, &broadcast, made, out),
+        Err(status) => status,
+    }
+}
 
-    // A file is not there: plan.toml, or the first of those that the plan mentions.
-    ensures absent { OnAbsent result (λ name. ((name ≡ plan_name) × Lacks (H.held shelf.old) name) ⊎ LacksMention (H.held shelf.old) name) }
-    ensures absent_cause { OnAbsent result (λ _. Rose (H.absences shelf.old) (H.absences shelf.new)) }
-    ensures no_plan { HasNone (H.held shelf.old) plan_name → SaysAbsent plan_name result }
-    ensures shelf_cause { OnShelfFault result (Rose (H.faults shelf.old) (H.faults shelf.new)) }
-    // The first bad field of plan.toml.
-    ensures plan_refused { OnPlanRefused result (λ field. RefusesPlan (H.held shelf.old) field) }
-    // A file of too many blocks, or too many sections.
-    ensures build_refused { OnBuildRefused result (λ fault. RefusesBuild (H.held shelf.old) fault) }
-    ensures answer { IsAnswer result }
-    ensures complete { (Rose (H.absences shelf.old) (H.absences shelf.new) → ⊥) → (Rose (H.faults shelf.old) (H.faults shelf.new) → ⊥)
-        → (Rose (W.faults made.old) (W.faults made.new) → ⊥) → (Rose (T.faults out.old) (T.faults out.new) → ⊥)
-        → ((field : List ℕ) → RefusesPlan (H.held shelf.old) field → ⊥) → ((fault : BuildFault) → RefusesBuild (H.held shelf.old) fault → ⊥)
-        → IsUnrefused result }
+/// A plan, and the files that it mentions.
+#[derive(Drop)]
+struct Broadcast {
+    plan: Plan,
+    images: Vec<Vec<u8>>,
+}
 
+/// Reads `plan.toml`, and then the files that it mentions, in order.
+fn read_broadcast<H: Shelf>(alloc: Global, shelf: &mut H) -> Result<Broadcast, Status>
+    ensures found { IfOk result (λ b. TellsBroadcast (H.held shelf.old) b.plan (map (λ i. i.items) b.images.items)) }
+    ensures count { IfOk result (λ b. length b.images.items ≡ length (mentions b.plan.group)) }
+    ensures absent { IfErr result (λ status. OnAbsent status (λ name. ((name ≡ plan_name) × Lacks (H.held shelf.old) name)
+        ⊎ LacksMention (H.held shelf.old) name)) }
+    ensures no_plan { HasNone (H.held shelf.old) plan_name → IsErrWith (SaysAbsent plan_name) result }
+    ensures no_file { (name : List ℕ) → IsSome (H.held shelf.old) → LacksMention (H.held shelf.old) name
+        → IsErrWith (SaysAbsentOrFails name) result }
+    ensures plan_refused { IfErr result (λ status. OnPlanRefused status (λ field. RefusesPlan (H.held shelf.old) field)) }
+    ensures absent_cause { IfErr result (λ status. OnAbsent status (λ _. Rose (H.absences shelf.old) (H.absences shelf.new))) }
+    ensures fault_cause { IfErr result (λ status. OnShelfFault status (Rose (H.faults shelf.old) (H.faults shelf.new))) }
+    ensures refusals { IfErr result IsPlanRefusal }
     ensures unchanged { H.held shelf.new ≡ H.held shelf.old }
     ensures faults { H.faults shelf.old ≤ H.faults shelf.new }
     ensures absences { H.absences shelf.old ≤ H.absences shelf.new }
+{
+    let plan = read_plan(alloc, shelf)?;
+    let images = read_images(alloc, shelf, &plan)?;
+    Ok(Broadcast { plan, images })
+}
+
+/// Puts the packets of the plan's turns, and the line that counts them.
+fn put_broadcast<W: Sink, T: Sink>(
+    alloc: Global,
+    broadcast: &Broadcast,
+    made: &mut W,
+    out: &mut T,
+) -> Status
+    requires images { length broadcast.now.images.items ≡ length (mentions broadcast.now.plan.group) }
+    ensures done { (held : Option (List File))
+        → TellsBroadcast held broadcast.now.plan (map (λ i. i.items) broadcast.now.images.items)
+        → OnDone result (ForBroadcast held (PutsAll (sink_seen W.Sink made.old made.new) (sink_seen T.Sink out.old out.new))) }
+    ensures write_fault { (held : Option (List File))
+        → TellsBroadcast held broadcast.now.plan (map (λ i. i.items) broadcast.now.images.items)
+        → OnWriteFault result
+        (ForBroadcast held (PutsPart (sink_seen W.Sink made.old made.new) (sink_seen T.Sink out.old out.new))) }
+    ensures build_refused { (held : Option (List File))
+        → TellsBroadcast held broadcast.now.plan (map (λ i. i.items) broadcast.now.images.items)
+        → OnBuildRefused result (λ fault. RefusesBuild held fault) }
+    ensures complete { (held : Option (List File))
+        → TellsBroadcast held broadcast.now.plan (map (λ i. i.items) broadcast.now.images.items)
+        → ¬ Rose (W.faults made.old) (W.faults made.new) → ¬ Rose (T.faults out.old) (T.faults out.new)
+        → ((fault : BuildFault) → ¬ RefusesBuild held fault) → IsUnrefused result }
+    ensures early { IsEarly result → made.new ≡ made.old × (out.new ≡ out.old) }
+    ensures answers { IsPutAnswer result }
     ensures made_later { W.faults made.old ≤ W.faults made.new }
     ensures out_later { T.faults out.old ≤ T.faults out.new }
 {
-    let plan = match read_plan(alloc, shelf) {
-        Ok(plan) => plan,
-        Err(status) => return status,
-    };
-    let images = match read_images(alloc, shelf, &plan) {
-        Ok(images) => images,
-        Err(status) => return status,
-    };
-    let list = match make(alloc, &plan, &images) {
+    let list = match make(alloc, &broadcast.plan, &broadcast.images) {
         Ok(list) => list,
         Err(status) => return status,
     };
-    match send(alloc, &list, plan.turns, made, out) {
+    match send(alloc, &list, broadcast.plan.turns, made, out) {
         Ok(()) => Status::Done,
         Err(status) => status,
     }
@@ -90,7 +126,8 @@ fn make(alloc: Global, plan: &Plan, images: &[Vec<u8>]) -> Result<Vec<Timed>, St
     ensures some { IfOk result (λ list. 1 ≤ length list.items) }
     ensures few { IfOk result (λ list. length list.items ≤ 65536) }
     ensures sendable { IfOk result (λ list. All IsSendable list.items) }
-    ensures cause { IfErr result (λ status. OnBuildRefused status (λ fault. IsCause plan.now (map (λ i. i.items) images.now) fault × IsLimit fault)) }
+    ensures cause { IfErr result (λ status. OnBuildRefused status
+        (λ fault. IsCause plan.now (map (λ i. i.items) images.now) fault × IsLimit fault)) }
     ensures refusals { IfErr result IsMakingRefusal }
 {
     match sections(alloc, plan, images) {
@@ -122,9 +159,9 @@ fn send<W: Sink, T: Sink>(
     requires sendable { All IsSendable list.now }
     ensures made { OnOk result (Gains (W.contents made.old) (W.contents made.new) (concat (sent list.now turns))) }
     ensures line { OnOk result (Gains (T.contents out.old) (T.contents out.new) (built_line (length list.now) (length (sent list.now turns)))) }
-    ensures part { IfErr result (λ status. OnWriteFault status (PutsPrefix (W.contents made.old) (W.contents made.new) (T.contents out.old) (T.contents out.new)
-        (sent list.now turns) (built_line (length list.now) (length (sent list.now turns))))) }
-    ensures cause { IfErr result (λ status. OnWriteFault status (Rose (W.faults made.old) (W.faults made.new) ⊎ Rose (T.faults out.old) (T.faults out.new))) }
+    ensures part { IfErr result (λ status. OnWriteFault status
+        (StopsWriting (sink_seen W.Sink made.old made.new) (sink_seen T.Sink out.old out.new) (concat (sent list.now turns))
+        (built_line (length list.now) (length (sent list.now turns))))) }
     ensures memory_made { IfErr result (λ status. OnNoMemory status (made.new ≡ made.old)) }
     ensures memory_out { IfErr result (λ status. OnNoMemory status (out.new ≡ out.old)) }
     ensures refusals { IfErr result IsSendingRefusal }

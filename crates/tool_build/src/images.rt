@@ -1,14 +1,14 @@
 //! The files that a plan mentions.
-ghost use Rattle.std.specs.Prelude.{◌≡◌, ◌≤◌, ◌++◌, [], ◌∷◌, IfOk, IfErr, OnOk, length, map};
+ghost use Rattle.std.specs.Prelude.{◌≡◌, ◌≤◌, ◌++◌, ℕ, List, [], ◌∷◌, IfOk, IfErr, IsSome, OnOk, length, map};
 ghost use Rattle.head_plan.specs.Plans.{mentions};
 ghost use Rattle.ssu_io.specs.Faults.{Rose};
 ghost use Rattle.ssu_status.specs.Status.{OnAbsent, OnShelfFault};
 ghost use Rattle.ssu_status.specs.declared.status.Status.TheVariants.{NoMemory};
-ghost use Rattle.tool_box.specs.Fetching.{IsFetchRefusal};
+ghost use Rattle.tool_box.specs.Fetching.{IsErrWith, IsFetchRefusal, SaysAbsentOrFails};
 ghost use Rattle.tool_build.specs.Held.{HasEach, IsFirstMissing};
 
 use head_plan::Plan;
-use ssu_shelf::Shelf;
+use ssu_io::Shelf;
 use ssu_status::Status;
 use std::alloc::Global;
 use tool_box::fetch;
@@ -26,6 +26,8 @@ pub(crate) fn read_images<H: Shelf>(
     ensures found { IfOk result (λ images. HasEach (H.held shelf.old) (mentions plan.now.group) (map (λ i. i.items) images.items)) }
     ensures count { IfOk result (λ images. length images.items ≡ length (mentions plan.now.group)) }
     ensures absent { IfErr result (λ status. OnAbsent status (λ told. IsFirstMissing (H.held shelf.old) (mentions plan.now.group) told)) }
+    ensures missing { (name : List ℕ) → IsSome (H.held shelf.old) → IsFirstMissing (H.held shelf.old) (mentions plan.now.group) name
+        → IsErrWith (SaysAbsentOrFails name) result }
     ensures absent_cause { IfErr result (λ status. OnAbsent status (λ _. Rose (H.absences shelf.old) (H.absences shelf.new))) }
     ensures fault_cause { IfErr result (λ status. OnShelfFault status (Rose (H.faults shelf.old) (H.faults shelf.new))) }
     ensures refusals { IfErr result IsFetchRefusal }

@@ -4,7 +4,5 @@
 mod building;
 mod images;
 mod plan_text;
-#[cfg(test)]
-mod tests;
 
 pub use building::build;

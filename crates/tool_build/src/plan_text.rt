@@ -1,15 +1,16 @@
 //! The plan of `plan.toml`.
-ghost use Rattle.std.specs.Prelude.{◌≡◌, ◌≤◌, Ok, Err, IfOk, IfErr};
+ghost use Rattle.std.specs.Prelude.{◌≡◌, ◌≤◌, Ok, Err, IfOk, IfErr, IsSome};
 ghost use Rattle.head_plan.specs.PlanText.{plan_of};
+ghost use Rattle.head_plan.specs.Plans.{PlanData};
 ghost use Rattle.ssu_io.specs.Faults.{Rose};
 ghost use Rattle.ssu_status.specs.Status.{OnAbsent, OnPlanRefused, OnShelfFault};
-ghost use Rattle.tool_box.specs.Fetching.{TellsAbsence};
+ghost use Rattle.tool_box.specs.Fetching.{IsValueOrFails, TellsAbsence};
 ghost use Rattle.tool_build.specs.Held.{RefusesPlan, TellsPlan, plan_name as name_of_plan};
 ghost use Rattle.tool_build.specs.Refusals.{IsPlanRefusal, IsTextRefusal, text_refusal};
 
 use head_plan::{Plan, PlanFault};
 use ssu_answer::FileName;
-use ssu_shelf::Shelf;
+use ssu_io::Shelf;
 use ssu_status::Status;
 use std::alloc::Global;
 use tool_box::fetch;
@@ -22,6 +23,8 @@ use tool_box::fetch;
 /// bad field of the file, and `NoMemory`.
 pub(crate) fn read_plan<H: Shelf>(alloc: Global, shelf: &mut H) -> Result<Plan, Status>
     ensures found { IfOk result (λ p. TellsPlan (H.held shelf.old) p) }
+    // Where the shelf tells its files and has a plan, that plan is found but for a fault of the shelf or want of memory.
+    ensures told { (p : PlanData) → IsSome (H.held shelf.old) → TellsPlan (H.held shelf.old) p → IsValueOrFails p result }
     ensures absent { TellsAbsence (H.held shelf.old) name_of_plan result }
     ensures absent_name { IfErr result (λ status. OnAbsent status (λ told. told ≡ name_of_plan)) }
     ensures absent_cause { IfErr result (λ status. OnAbsent status (λ _. Rose (H.absences shelf.old) (H.absences shelf.new))) }

@@ -1,16 +1,16 @@
 -- What is printed, packet by packet.
 use Rattle.std.proofs.Common.{◌≡◌, ℕ, ◌+◌, ◌<◌, Bool, true, false, List, [], ◌∷◌, ◌++◌, length, reverse, Option, sym, ap, subst, refl, ◌∙◌}
-use Rattle.std.proofs.lemmas.List.{reverse-append, length-reverse}
+use Rattle.std.proofs.lemmas.List.{append-nil, reverse-append, length-reverse}
 use Rattle.ssu_io.specs.Bytes.{Takes, Gains, GainsPrefix}
 use Rattle.ssu_io.specs.SinkBuffer.{MovesOn}
-use Rattle.ts_input.specs.Behind.{TakesOne}
-use Rattle.ts_input.specs.Next.{TakesFewer}
+use Rattle.ssu_io.proofs.BytesLemmas.{Gains_none, Takes_join}
+use Rattle.ts_input.specs.Input.{TakesRest}
 use Rattle.ts_input.specs.Packets.{packets}
 use Rattle.ts_packet.specs.Packet.{pid_of}
 use Rattle.ts_section.specs.Events.{Feed, heard}
-use Rattle.packet_text.specs.Puts.{Puts, PutsOfMost, PutsPrefix}
-use Rattle.packet_text.specs.SoFar.{SoFar}
-use Rattle.packet_text.proofs.Runs.{begin, step, step_failed, end, end_failed, most, most_failed, most_end_failed, too_long, flushed_longer, longer}
+use Rattle.ts_input.specs.Puts.{Puts, PutsOfMost, PutsPrefix}
+use Rattle.ts_input.specs.SoFar.{SoFar}
+use Rattle.ts_input.proofs.Runs.{begin, step, step_failed, flushed_longer, run_ended, run_failed}
 use Rattle.route_tables.specs.Values.{Receiver}
 use Rattle.ssu_route.specs.Queries.{followed}
 use Rattle.tool_find.specs.Lines.{lines_for, lines_if, heard_lines, levels_lines, text_of, whole_text}
@@ -95,99 +95,72 @@ walk_step_failed shows me count before left left_now left_then got got_now got_t
     (lines_for shows count (pid_of packet) each)
     sofar takes one (more_text shows me before packet each count hears) failed few
 
--- The end of the input came, and all that waited went, with the levels behind it.
-pub walk_done : (shows : Bool) (me : Receiver) (count : ℕ) (walk : Walk) (left left_now left_then got got_now got_then : Option (List ℕ)) (waiting : List ℕ)
+no_rest : (moved waiting : List ℕ) → [] ≡ moved ++ waiting → waiting ≡ []
+no_rest [] waiting e = sym e
+no_rest (byte ∷ moved) waiting e = absurd cc
+
+-- Where no sections are shown nothing waits.
+nothing_waits : (me : Receiver) (count : ℕ) (walk : Walk) (left left_now got got_now : Option (List ℕ)) (waiting : List ℕ)
+    → WalkedSoFar false me count walk left left_now got got_now waiting → waiting ≡ []
+unfolding text_of
+nothing_waits me count walk left left_now got got_now waiting sofar = no_rest sofar.moves.moved waiting sofar.moves.none_lost
+
+-- What waited went out where sections are shown; else nothing waited.
+pub went : (shows : Bool) (me : Receiver) (count : ℕ) (walk : Walk) (left left_now got got_now got_then : Option (List ℕ)) (waiting : List ℕ)
     → WalkedSoFar shows me count walk left left_now got got_now waiting
-    → TakesFewer left_now left_then 188
-    → ((ps : List (List ℕ)) → Walks me walk ps → Gains got_now got_then (waiting ++ levels_lines me ps))
-    → count < 16777216
-    → Puts (whole_text shows me) left left_then got got_then
-walk_done shows me count walk left left_now left_then got got_now got_then waiting sofar rest gains few =
-    end (whole_text shows me) (StandsFor me walk) count left left_now left_then got got_now got_then (waiting ++ levels_of me (packets sofar.taken))
-    (longer (text_of shows me) (whole_text shows me) (levels_of me) (StandsFor me walk) count left left_now got got_now waiting sofar (whole_is shows me))
-    rest (gains (reverse (packets sofar.taken)) sofar.stands) few
+    → (shows ≡ true → Gains got_now got_then waiting) → (shows ≡ false → got_then ≡ got_now) → Gains got_now got_then waiting
+went true me count walk left left_now got got_now got_then waiting sofar gains same = gains refl
+went false me count walk left left_now got got_now got_then waiting sofar gains same =
+    rw (nothing_waits me count walk left left_now got got_now waiting sofar, same refl) (Gains_none got_now)
 
--- The same, and the write failed.
-pub walk_done_failed : (shows : Bool) (me : Receiver) (count : ℕ) (walk : Walk) (left left_now left_then got got_now got_then : Option (List ℕ)) (waiting : List ℕ)
+-- Then nothing waits.
+pub none_left : (shows : Bool) (me : Receiver) (count : ℕ) (walk : Walk) (left left_now got got_now : Option (List ℕ)) (waiting after : List ℕ)
     → WalkedSoFar shows me count walk left left_now got got_now waiting
-    → TakesFewer left_now left_then 188
-    → ((ps : List (List ℕ)) → Walks me walk ps → GainsPrefix got_now got_then (waiting ++ levels_lines me ps))
-    → count < 16777216
-    → PutsPrefix (whole_text shows me) left left_then got got_then
-walk_done_failed shows me count walk left left_now left_then got got_now got_then waiting sofar rest failed few =
-    end_failed (whole_text shows me) (StandsFor me walk) count left left_now left_then got got_now got_then (waiting ++ levels_of me (packets sofar.taken))
-    (longer (text_of shows me) (whole_text shows me) (levels_of me) (StandsFor me walk) count left left_now got got_now waiting sofar (whole_is shows me))
-    rest (failed (reverse (packets sofar.taken)) sofar.stands) few
+    → (shows ≡ true → after ≡ []) → (shows ≡ false → after ≡ waiting) → after ≡ []
+none_left true me count walk left left_now got got_now waiting after sofar empty same = empty refl
+none_left false me count walk left left_now got got_now waiting after sofar empty same =
+    same refl ∙ nothing_waits me count walk left left_now got got_now waiting sofar
 
--- A fault of the input came, and all that waited went.
-pub walk_end : (shows : Bool) (me : Receiver) (count : ℕ) (walk : Walk) (left left_now left_then got got_now got_then : Option (List ℕ)) (waiting : List ℕ)
+-- Nothing more was taken behind the rest.
+pub rest_still : (count : ℕ) (left left_now left_then : Option (List ℕ)) → TakesRest count left left_now → Takes left_now left_then [] → TakesRest count left left_then
+rest_still count left left_now left_then rest nothing = record {
+  rest = rest.rest;
+  fewer = rest.fewer;
+  within = rest.within;
+  takes = subst (Takes left left_then) (append-nil rest.rest) (Takes_join left left_now left_then rest.rest [] rest.takes nothing);
+}
+
+-- The levels behind all that waited, which went out before.
+levels_wait : (shows : Bool) (me : Receiver) (count : ℕ) (walk : Walk) (left left_now got got_now got_mid : Option (List ℕ)) (waiting : List ℕ)
+    → (sofar : WalkedSoFar shows me count walk left left_now got got_now waiting) → Gains got_now got_mid waiting
+    → SoFar (whole_text shows me) (StandsFor me walk) count left left_now got got_mid ([] ++ levels_of me (packets sofar.taken))
+levels_wait shows me count walk left left_now got got_now got_mid waiting sofar went =
+    flushed_longer (text_of shows me) (whole_text shows me) (levels_of me) (StandsFor me walk) count left left_now got got_now got_mid waiting sofar went (whole_is shows me)
+
+-- No packet came any more, what waited went, and then the levels.
+pub walk_done : (shows : Bool) (me : Receiver) (count : ℕ) (walk : Walk) (left left_now left_then got got_now got_mid got_then : Option (List ℕ)) (waiting none : List ℕ)
     → WalkedSoFar shows me count walk left left_now got got_now waiting
-    → TakesFewer left_now left_then 188
-    → Gains got_now got_then waiting
-    → count < 16777216
-    → Puts (text_of shows me) left left_then got got_then
-walk_end shows me count walk left left_now left_then got got_now got_then waiting sofar rest gains few =
-    end (text_of shows me) (StandsFor me walk) count left left_now left_then got got_now got_then waiting sofar rest gains few
-
--- The same, and the write failed.
-pub walk_end_failed : (shows : Bool) (me : Receiver) (count : ℕ) (walk : Walk) (left left_now left_then got got_now got_then : Option (List ℕ)) (waiting : List ℕ)
-    → WalkedSoFar shows me count walk left left_now got got_now waiting
-    → TakesFewer left_now left_then 188
-    → GainsPrefix got_now got_then waiting
-    → count < 16777216
-    → PutsPrefix (text_of shows me) left left_then got got_then
-walk_end_failed shows me count walk left left_now left_then got got_now got_then waiting sofar rest failed few =
-    end_failed (text_of shows me) (StandsFor me walk) count left left_now left_then got got_now got_then waiting sofar rest failed few
-
--- The greatest number of packets was taken, and the write of what waited failed.
-pub walk_most_failed : (shows : Bool) (me : Receiver) (count : ℕ) (walk : Walk) (left left_now got got_now got_then : Option (List ℕ)) (waiting : List ℕ)
-    → count ≡ 16777216 → WalkedSoFar shows me count walk left left_now got got_now waiting
-    → GainsPrefix got_now got_then waiting
-    → PutsPrefix (text_of shows me) left left_now got got_then
-walk_most_failed shows me count walk left left_now got got_now got_then waiting so_many sofar failed =
-    most_failed (text_of shows me) (StandsFor me walk) count left left_now got got_now got_then waiting so_many sofar failed
-
--- The greatest number of packets was taken, all that waited went, a fault came, or one more byte.
-pub walk_most : (shows : Bool) (me : Receiver) (count : ℕ) (walk : Walk) (left left_now left_then got got_now got_then : Option (List ℕ)) (waiting : List ℕ)
-    → count ≡ 16777216 → WalkedSoFar shows me count walk left left_now got got_now waiting
-    → TakesFewer left_now left_then 1
-    → Gains got_now got_then waiting
-    → Puts (text_of shows me) left left_then got got_then
-walk_most shows me count walk left left_now left_then got got_now got_then waiting so_many sofar rest gains =
-    most (text_of shows me) (StandsFor me walk) count left left_now left_then got got_now got_then waiting so_many sofar rest gains
-
-pub walk_too_long : (shows : Bool) (me : Receiver) (count : ℕ) (walk : Walk) (left left_now left_then got got_now got_then : Option (List ℕ)) (waiting : List ℕ)
-    → count ≡ 16777216 → WalkedSoFar shows me count walk left left_now got got_now waiting
-    → TakesOne left_now left_then
-    → Gains got_now got_then waiting
-    → PutsOfMost (text_of shows me) left left_then got got_then
-walk_too_long shows me count walk left left_now left_then got got_now got_then waiting so_many sofar byte gains =
-    too_long (text_of shows me) (StandsFor me walk) count left left_now left_then got got_now got_then waiting so_many sofar byte gains
-
--- The greatest number of packets was taken, and no byte came behind them. What waited went, and then the levels.
-pub walk_most_done : (shows : Bool) (me : Receiver) (count : ℕ) (walk : Walk) (left left_now left_then got got_now got_mid got_then : Option (List ℕ)) (waiting none : List ℕ)
-    → count ≡ 16777216 → WalkedSoFar shows me count walk left left_now got got_now waiting
-    → TakesFewer left_now left_then 1
+    → TakesRest count left_now left_then
     → Gains got_now got_mid waiting → none ≡ []
     → ((ps : List (List ℕ)) → Walks me walk ps → Gains got_mid got_then (none ++ levels_lines me ps))
     → Puts (whole_text shows me) left left_then got got_then
-walk_most_done shows me count walk left left_now left_then got got_now got_mid got_then waiting none so_many sofar rest went empty gains =
+walk_done shows me count walk left left_now left_then got got_now got_mid got_then waiting none sofar rest went empty gains =
     let ps = packets sofar.taken in
     let P : List ℕ → Type 0 = λ waits. Gains got_mid got_then (waits ++ levels_of me ps) in
-    most (whole_text shows me) (StandsFor me walk) count left left_now left_then got got_mid got_then ([] ++ levels_of me ps) so_many
-    (flushed_longer (text_of shows me) (whole_text shows me) (levels_of me) (StandsFor me walk) count left left_now got got_now got_mid waiting sofar went (whole_is shows me))
+    run_ended (whole_text shows me) (StandsFor me walk) count left left_now left_then got got_mid got_then ([] ++ levels_of me ps)
+    (levels_wait shows me count walk left left_now got got_now got_mid waiting sofar went)
     rest (subst P empty (gains (reverse ps) sofar.stands))
 
 -- The same, and the write of the levels failed.
-pub walk_most_done_failed : (shows : Bool) (me : Receiver) (count : ℕ) (walk : Walk) (left left_now left_then got got_now got_mid got_then : Option (List ℕ)) (waiting none : List ℕ)
-    → count ≡ 16777216 → WalkedSoFar shows me count walk left left_now got got_now waiting
-    → TakesFewer left_now left_then 1
+pub walk_done_failed : (shows : Bool) (me : Receiver) (count : ℕ) (walk : Walk) (left left_now left_then got got_now got_mid got_then : Option (List ℕ)) (waiting none : List ℕ)
+    → WalkedSoFar shows me count walk left left_now got got_now waiting
+    → TakesRest count left_now left_then
     → Gains got_now got_mid waiting → none ≡ []
     → ((ps : List (List ℕ)) → Walks me walk ps → GainsPrefix got_mid got_then (none ++ levels_lines me ps))
     → PutsPrefix (whole_text shows me) left left_then got got_then
-walk_most_done_failed shows me count walk left left_now left_then got got_now got_mid got_then waiting none so_many sofar rest went empty failed =
+walk_done_failed shows me count walk left left_now left_then got got_now got_mid got_then waiting none sofar rest went empty failed =
     let ps = packets sofar.taken in
     let P : List ℕ → Type 0 = λ waits. GainsPrefix got_mid got_then (waits ++ levels_of me ps) in
-    most_end_failed (whole_text shows me) (StandsFor me walk) count left left_now left_then got got_mid got_then ([] ++ levels_of me ps) so_many
-    (flushed_longer (text_of shows me) (whole_text shows me) (levels_of me) (StandsFor me walk) count left left_now got got_now got_mid waiting sofar went (whole_is shows me))
+    run_failed (whole_text shows me) (StandsFor me walk) count left left_now left_then got got_mid got_then ([] ++ levels_of me ps)
+    (levels_wait shows me count walk left left_now got got_now got_mid waiting sofar went)
     rest (subst P empty (failed (reverse ps) sofar.stands))

@@ -1,3 +1,4 @@
 pub mod Lines
 pub mod Ways
 pub mod Answers
+pub mod Does

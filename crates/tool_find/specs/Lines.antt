@@ -4,7 +4,9 @@ use Rattle.std.specs.Prelude.{ℕ, Bool, true, false, List, [], ◌∷◌, ◌++
 use Rattle.std.specs.List.{concat}
 use Rattle.box_file.specs.declared.file.BoxFile.{BoxFile}
 use Rattle.section_kind.specs.Kinds.{kind_of}
-use Rattle.ssu_line.specs.LevelLines.{services_line, program_line, component_line, notices_line, carousel_line, groups_line, modules_line}
+use Rattle.ssu_answer.specs.BankLen.{bank_len}
+use Rattle.ssu_line.specs.LevelLines.{services_line, program_line, component_line, notices_line, carousel_line}
+use Rattle.ssu_line.specs.LevelLines.{groups_line, modules_line}
 use Rattle.ssu_line.specs.SectionLine.{shown_line}
 use Rattle.ts_packet.specs.Packet.{pid_of}
 use Rattle.ts_section.specs.Events.{Feed, heard}
@@ -12,11 +14,7 @@ use Rattle.route_tables.specs.Values.{Receiver}
 use Rattle.ssu_route.specs.declared.report.Report.{Report}
 use Rattle.ssu_route.specs.Queries.{followed, heard_by, report}
 
--- the greatest image: 128 MiB
-abbrev pub bank_len : ℕ
-bank_len = 134217728
-
--- The box of the file. The software that the file names runs on it.
+-- The box of the file, without a flash. The software that the file names runs on it.
 abbrev pub receiver_of : BoxFile → Receiver
 receiver_of file = record { file = file; bank_len = bank_len; running = file.software }
 

@@ -1,92 +1,45 @@
-//! `find` and `show`.
-ghost use Rattle.std.specs.Prelude.{◌≡◌, ◌≤◌, [], false, true, IfOk};
-ghost use Rattle.ssu_io.specs.Faults.{Rose};
-ghost use Rattle.ssu_status.specs.Status.{OnAbsent, OnBoxRefused, OnDone, OnReadFault, OnShelfFault, OnTooLong, OnWriteFault};
-ghost use Rattle.tool_box.specs.Boxes.{RefusesBox, box_name};
-ghost use Rattle.tool_box.specs.Fetching.{HasNone, Lacks, SaysAbsent};
-ghost use Rattle.tool_find.specs.Answers.{IsAnswer, IsUnfailed, NoneWalked, TellsAndPuts, TellsAndPutsOfMost, TellsAndPutsPrefix};
-ghost use Rattle.tool_find.specs.Lines.{receiver_of, text_of, whole_text};
+//! `find` and `show`: the way to an update for the box of `box.toml`.
+ghost use Rattle.std.specs.Prelude.{◌≡◌, [], false, true, IfOk};
+ghost use Rattle.ssu_io.specs.Seen.{shelf_seen, sink_seen, source_seen};
+ghost use Rattle.tool_find.specs.Does.{FindDoes};
+ghost use Rattle.tool_find.specs.Lines.{receiver_of};
 ghost use Rattle.tool_find.specs.Ways.{Walks};
-ghost use Rattle.ts_input.specs.Packets.{IsAtEnd};
 
 use crate::walk::Walk;
 use crate::walking::walk_all;
 use box_file::BoxFile;
-use ssu_io::{NoMemory, Sink, SinkBuffer, Source};
-use ssu_shelf::Shelf;
+use ssu_io::{NoMemory, Shelf, Sink, SinkBuffer, Source};
 use ssu_status::Status;
 use std::alloc::Global;
 use tool_box::read_box;
 
 /// Prints a line for each of the seven levels of the way to an update that the packets of `air` lead the box of `box.toml`.
+///
+/// `Done` at the end of the input. `Absent`, `ShelfFault` and `BoxRefused` with the first bad field where there is no box,
+/// and `NoMemory`, before the first packet; `ReadFault` where `air` failed, `TooLong` at one byte behind 16,777,216
+/// packets, and `WriteFault` where `out` failed.
 pub fn find<H: Shelf, A: Source, T: Sink>(
     alloc: Global,
     shelf: &mut H,
     air: &mut A,
     out: &mut T,
 ) -> Status
-    ensures done { OnDone result (TellsAndPuts (whole_text false) (H.held shelf.old) (A.left air.old) (A.left air.new) (T.contents out.old) (T.contents out.new)) }
-    ensures end { OnDone result (IsAtEnd (A.left air.new)) }
-    ensures read_fault { OnReadFault result (TellsAndPuts (text_of false) (H.held shelf.old) (A.left air.old) (A.left air.new) (T.contents out.old) (T.contents out.new)) }
-    ensures too_long { OnTooLong result (TellsAndPutsOfMost (text_of false) (H.held shelf.old) (A.left air.old) (A.left air.new) (T.contents out.old) (T.contents out.new)) }
-    // A prefix of the lines; the levels come once the input was read to its end.
-    ensures write_fault { OnWriteFault result (TellsAndPutsPrefix false (H.held shelf.old) (A.left air.old) (A.left air.new) (T.contents out.old) (T.contents out.new)) }
-    // Why there is no box: `Absent` comes exactly where the shelf has no box.toml, where it tells its files.
-    ensures absent { OnAbsent result (λ name. (name ≡ box_name) × Lacks (H.held shelf.old) name) }
-    ensures no_box { HasNone (H.held shelf.old) box_name → SaysAbsent box_name result }
-    ensures box_refused { OnBoxRefused result (λ field. RefusesBox (H.held shelf.old) field) }
-    // Why it failed.
-    ensures absent_cause { OnAbsent result (λ _. Rose (H.absences shelf.old) (H.absences shelf.new)) }
-    ensures shelf_cause { OnShelfFault result (Rose (H.faults shelf.old) (H.faults shelf.new)) }
-    ensures read_cause { OnReadFault result (Rose (A.faults air.old) (A.faults air.new)) }
-    ensures write_cause { OnWriteFault result (Rose (T.faults out.old) (T.faults out.new)) }
-    ensures answer { IsAnswer result }
-    ensures complete { (Rose (H.faults shelf.old) (H.faults shelf.new) → ⊥) → (Rose (A.faults air.old) (A.faults air.new) → ⊥)
-        → (Rose (T.faults out.old) (T.faults out.new) → ⊥) → IsUnfailed result }
-    // What the objects are then.
-    ensures unread { NoneWalked result (air.new ≡ air.old) }
-    ensures unwritten { NoneWalked result (out.new ≡ out.old) }
-    ensures held { H.held shelf.new ≡ H.held shelf.old }
-    ensures shelf_later { H.faults shelf.old ≤ H.faults shelf.new }
-    ensures absences_later { H.absences shelf.old ≤ H.absences shelf.new }
-    ensures air_later { A.faults air.old ≤ A.faults air.new }
-    ensures out_later { T.faults out.old ≤ T.faults out.new }
+    ensures does { FindDoes false result (shelf_seen H.Shelf shelf.old shelf.new) (source_seen A.Source air.old air.new)
+        (sink_seen T.Sink out.old out.new) }
 {
     walk_for(alloc, false, shelf, air, out)
 }
 
-/// Prints a line for each section that the box of `box.toml` hears in the packets of `air`, and then what `find` prints.
+/// Prints a line for each section that the box of `box.toml` hears in the packets of `air`, and then what `find` prints. It
+/// answers as `find` does, and `WriteFault` also packet by packet.
 pub fn show<H: Shelf, A: Source, T: Sink>(
     alloc: Global,
     shelf: &mut H,
     air: &mut A,
     out: &mut T,
 ) -> Status
-    ensures done { OnDone result (TellsAndPuts (whole_text true) (H.held shelf.old) (A.left air.old) (A.left air.new) (T.contents out.old) (T.contents out.new)) }
-    ensures end { OnDone result (IsAtEnd (A.left air.new)) }
-    ensures read_fault { OnReadFault result (TellsAndPuts (text_of true) (H.held shelf.old) (A.left air.old) (A.left air.new) (T.contents out.old) (T.contents out.new)) }
-    ensures too_long { OnTooLong result (TellsAndPutsOfMost (text_of true) (H.held shelf.old) (A.left air.old) (A.left air.new) (T.contents out.old) (T.contents out.new)) }
-    ensures write_fault { OnWriteFault result (TellsAndPutsPrefix true (H.held shelf.old) (A.left air.old) (A.left air.new) (T.contents out.old) (T.contents out.new)) }
-    // Why there is no box: `Absent` comes exactly where the shelf has no box.toml, where it tells its files.
-    ensures absent { OnAbsent result (λ name. (name ≡ box_name) × Lacks (H.held shelf.old) name) }
-    ensures no_box { HasNone (H.held shelf.old) box_name → SaysAbsent box_name result }
-    ensures box_refused { OnBoxRefused result (λ field. RefusesBox (H.held shelf.old) field) }
-    // Why it failed.
-    ensures absent_cause { OnAbsent result (λ _. Rose (H.absences shelf.old) (H.absences shelf.new)) }
-    ensures shelf_cause { OnShelfFault result (Rose (H.faults shelf.old) (H.faults shelf.new)) }
-    ensures read_cause { OnReadFault result (Rose (A.faults air.old) (A.faults air.new)) }
-    ensures write_cause { OnWriteFault result (Rose (T.faults out.old) (T.faults out.new)) }
-    ensures answer { IsAnswer result }
-    ensures complete { (Rose (H.faults shelf.old) (H.faults shelf.new) → ⊥) → (Rose (A.faults air.old) (A.faults air.new) → ⊥)
-        → (Rose (T.faults out.old) (T.faults out.new) → ⊥) → IsUnfailed result }
-    // What the objects are then.
-    ensures unread { NoneWalked result (air.new ≡ air.old) }
-    ensures unwritten { NoneWalked result (out.new ≡ out.old) }
-    ensures held { H.held shelf.new ≡ H.held shelf.old }
-    ensures shelf_later { H.faults shelf.old ≤ H.faults shelf.new }
-    ensures absences_later { H.absences shelf.old ≤ H.absences shelf.new }
-    ensures air_later { A.faults air.old ≤ A.faults air.new }
-    ensures out_later { T.faults out.old ≤ T.faults out.new }
+    ensures does { FindDoes true result (shelf_seen H.Shelf shelf.old shelf.new) (source_seen A.Source air.old air.new)
+        (sink_seen T.Sink out.old out.new) }
 {
     walk_for(alloc, true, shelf, air, out)
 }
@@ -99,31 +52,8 @@ fn walk_for<H: Shelf, A: Source, T: Sink>(
     air: &mut A,
     out: &mut T,
 ) -> Status
-    ensures done { OnDone result (TellsAndPuts (whole_text shows) (H.held shelf.old) (A.left air.old) (A.left air.new) (T.contents out.old) (T.contents out.new)) }
-    ensures end { OnDone result (IsAtEnd (A.left air.new)) }
-    ensures read_fault { OnReadFault result (TellsAndPuts (text_of shows) (H.held shelf.old) (A.left air.old) (A.left air.new) (T.contents out.old) (T.contents out.new)) }
-    ensures too_long { OnTooLong result (TellsAndPutsOfMost (text_of shows) (H.held shelf.old) (A.left air.old) (A.left air.new) (T.contents out.old) (T.contents out.new)) }
-    ensures write_fault { OnWriteFault result (TellsAndPutsPrefix shows (H.held shelf.old) (A.left air.old) (A.left air.new) (T.contents out.old) (T.contents out.new)) }
-    // Why there is no box: `Absent` comes exactly where the shelf has no box.toml, where it tells its files.
-    ensures absent { OnAbsent result (λ name. (name ≡ box_name) × Lacks (H.held shelf.old) name) }
-    ensures no_box { HasNone (H.held shelf.old) box_name → SaysAbsent box_name result }
-    ensures box_refused { OnBoxRefused result (λ field. RefusesBox (H.held shelf.old) field) }
-    // Why it failed.
-    ensures absent_cause { OnAbsent result (λ _. Rose (H.absences shelf.old) (H.absences shelf.new)) }
-    ensures shelf_cause { OnShelfFault result (Rose (H.faults shelf.old) (H.faults shelf.new)) }
-    ensures read_cause { OnReadFault result (Rose (A.faults air.old) (A.faults air.new)) }
-    ensures write_cause { OnWriteFault result (Rose (T.faults out.old) (T.faults out.new)) }
-    ensures answer { IsAnswer result }
-    ensures complete { (Rose (H.faults shelf.old) (H.faults shelf.new) → ⊥) → (Rose (A.faults air.old) (A.faults air.new) → ⊥)
-        → (Rose (T.faults out.old) (T.faults out.new) → ⊥) → IsUnfailed result }
-    // What the objects are then.
-    ensures unread { NoneWalked result (air.new ≡ air.old) }
-    ensures unwritten { NoneWalked result (out.new ≡ out.old) }
-    ensures held { H.held shelf.new ≡ H.held shelf.old }
-    ensures shelf_later { H.faults shelf.old ≤ H.faults shelf.new }
-    ensures absences_later { H.absences shelf.old ≤ H.absences shelf.new }
-    ensures air_later { A.faults air.old ≤ A.faults air.new }
-    ensures out_later { T.faults out.old ≤ T.faults out.new }
+    ensures does { FindDoes shows result (shelf_seen H.Shelf shelf.old shelf.new) (source_seen A.Source air.old air.new)
+        (sink_seen T.Sink out.old out.new) }
 {
     let file = match read_box(alloc, shelf) {
         Ok(file) => file,

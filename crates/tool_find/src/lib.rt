@@ -3,8 +3,6 @@
 
 mod commands;
 mod lines;
-#[cfg(test)]
-mod tests;
 mod walk;
 mod walking;
 

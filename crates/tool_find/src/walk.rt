@@ -1,6 +1,5 @@
 //! A box that hears the packets of an input.
 ghost use Rattle.std.specs.Prelude.{◌≡◌, ℕ, List, [], ◌∷◌, IfOk};
-ghost use Rattle.ts_packet.specs.Packet.{pid_of};
 ghost use Rattle.ts_section.specs.Events.{Heard, Feed, heard};
 ghost use Rattle.route_tables.specs.Values.{Receiver};
 ghost use Rattle.ssu_route.specs.Queries.{followed, heard_by, report as report_of};
@@ -9,15 +8,13 @@ ghost use Rattle.ssu_route.specs.Queries.{after_all};
 ghost use Rattle.tool_find.specs.Lines.{receiver_of};
 
 use box_file::BoxFile;
+use ssu_answer::BANK_LEN;
 use ssu_compat::SwId;
 use ssu_io::NoMemory;
 use ssu_route::{Report, Route};
 use std::alloc::Global;
-use ts_packet::{Packet, Pid};
+use ts_packet::{Packet, Pid, pid_of};
 use ts_section::{Hearer, SectionOut};
-
-/// The greatest image that is asked for: 128 MiB.
-const BANK_LEN: u32 = 134_217_728;
 
 /// A box on the way to an update.
 #[derive(Drop)]
@@ -54,7 +51,7 @@ impl Walk {
         ensures heard { (me : Receiver) (ps : List (List ℕ)) → Walks me self.old ps → self.new.each ≡ heard (Feed packet.now ∷ followed me ps) }
     {
         self.hearer.feed(packet, &mut self.each);
-        hear_each(&mut self.route, &self.each, pid_in(packet), self.running);
+        hear_each(&mut self.route, &self.each, pid_of(packet), self.running);
         let pids = self.route.listens();
         self.hearer.listen(&pids);
     }
@@ -65,13 +62,6 @@ impl Walk {
     {
         self.route.report()
     }
-}
-
-/// The PID that a packet names.
-pub(crate) fn pid_in(packet: &Packet) -> Pid
-    ensures { result ≡ pid_of packet.now }
-{
-    Pid::new(packet[1] as u16 % 32 * 256 + packet[2] as u16).unwrap_or_default()
 }
 
 /// The route hears the sections in their order.

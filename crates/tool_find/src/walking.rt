@@ -1,10 +1,10 @@
 //! A walk over all packets of an input.
-ghost use Rattle.std.specs.Prelude.{◌≡◌, ◌≤◌, ◌++◌, ℕ, List, [], Bool, IfOk, OnOk, OnErr};
+ghost use Rattle.std.specs.Prelude.{◌≡◌, ◌≤◌, ◌++◌, ℕ, List, [], true, false, IfOk, OnOk, OnErr};
 ghost use Rattle.ssu_io.specs.Bytes.{Gains, GainsPrefix};
 ghost use Rattle.ssu_io.specs.Faults.{HasCause, Rose};
 ghost use Rattle.ssu_io.specs.SinkBuffer.{MovesOn};
 ghost use Rattle.ssu_status.specs.Status.{OnDone, OnReadFault, OnTooLong};
-ghost use Rattle.packet_text.specs.Puts.{Puts, PutsOfMost};
+ghost use Rattle.ts_input.specs.Puts.{Puts, PutsOfMost};
 ghost use Rattle.ts_input.specs.Packets.{IsAtEnd};
 ghost use Rattle.route_tables.specs.Values.{Receiver};
 ghost use Rattle.tool_find.specs.Answers.{IsEndOfWalk, PutsPart};
@@ -12,11 +12,11 @@ ghost use Rattle.tool_find.specs.Lines.{levels_lines, lines_for, text_of, whole_
 ghost use Rattle.tool_find.specs.Ways.{Walks};
 
 use crate::lines::{put_report, put_sections};
-use crate::walk::{Walk, pid_in};
+use crate::walk::Walk;
 use ssu_io::{Failed, Sink, SinkBuffer, Source};
 use ssu_status::Status;
-use ts_input::{Behind, MAX_PACKETS, Next, PACKET_LEN, behind_last, next_packet};
-use ts_packet::Pid;
+use ts_input::{Ended, PacketInput};
+use ts_packet::{Pid, pid_of};
 use ts_section::SectionOut;
 
 /// Takes all packets of the input and prints what was found; where `shows`, also a line for each section that is heard. An
@@ -43,30 +43,27 @@ pub(crate) fn walk_all<A: Source, T: Sink>(
     ensures write_cause { HasCause (T.faults out.old) (T.faults out.new) result }
     ensures air_later { A.faults air.old ≤ A.faults air.new }
 {
-    let mut packet = [0; PACKET_LEN];
-    for number in 0..MAX_PACKETS {
-        match next_packet(air, &mut packet) {
-            Next::Packet => {}
-            Next::End => {
-                finish(walk, waiting, out)?;
-                return Ok(Status::Done);
-            }
-            Next::Failed => {
-                waiting.flush(out)?;
-                return Ok(Status::ReadFault);
-            }
-        }
-        walk.take(&packet);
-        put_if(shows, number, pid_in(&packet), &walk.each, waiting, out)?;
+    let mut input = PacketInput::new();
+    while input.next(air) {
+        walk.take(input.packet());
+        let number = input.count() - 1;
+        put_if(
+            shows,
+            number,
+            pid_of(input.packet()),
+            &walk.each,
+            waiting,
+            out,
+        )?;
     }
-    waiting.flush(out)?;
-    match behind_last(air) {
-        Behind::Nothing => {
+    flush_if(shows, waiting, out)?;
+    match input.ended(air) {
+        Ended::End => {
             finish(walk, waiting, out)?;
             Ok(Status::Done)
         }
-        Behind::More => Ok(Status::TooLong),
-        Behind::Failed => Ok(Status::ReadFault),
+        Ended::Failed => Ok(Status::ReadFault),
+        Ended::TooLong => Ok(Status::TooLong),
     }
 }
 
@@ -81,6 +78,7 @@ fn put_if<T: Sink>(
 ) -> Result<(), Failed>
     ensures ok { OnOk result (MovesOn (T.contents out.old) (T.contents out.new) waiting.old (lines_for shows number pid each.now) waiting.new) }
     ensures failed { OnErr result (GainsPrefix (T.contents out.old) (T.contents out.new) (waiting.old ++ lines_for shows number pid each.now)) }
+    ensures only_shown { OnErr result (shows ≡ true) }
     ensures cause { HasCause (T.faults out.old) (T.faults out.new) result }
 {
     if shows {
@@ -88,6 +86,19 @@ fn put_if<T: Sink>(
     } else {
         Ok(())
     }
+}
+
+/// Puts all that waits where sections are shown. Where they are not, nothing waits.
+fn flush_if<T: Sink>(shows: bool, waiting: &mut SinkBuffer, out: &mut T) -> Result<(), Failed>
+    ensures ok { OnOk result (shows ≡ true → Gains (T.contents out.old) (T.contents out.new) waiting.old) }
+    ensures empty { shows ≡ true → waiting.new ≡ [] }
+    ensures unwritten { shows ≡ false → out.new ≡ out.old }
+    ensures unmoved { shows ≡ false → waiting.new ≡ waiting.old }
+    ensures failed { OnErr result (GainsPrefix (T.contents out.old) (T.contents out.new) waiting.old) }
+    ensures only_shown { OnErr result (shows ≡ true) }
+    ensures cause { HasCause (T.faults out.old) (T.faults out.new) result }
+{
+    if shows { waiting.flush(out) } else { Ok(()) }
 }
 
 /// Puts all that waits, and behind it the seven lines.

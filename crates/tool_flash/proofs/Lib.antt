@@ -1,2 +1,3 @@
 mod BlankLemmas
 mod FormatLemmas
+pub mod StatusLaws

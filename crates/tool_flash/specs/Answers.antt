@@ -1,6 +1,7 @@
 -- Which statuses may come, and facts for several of them.
 use Rattle.ssu_status.specs.declared.status.Status.{Status}
-use Rattle.ssu_status.specs.declared.status.Status.TheVariants.{Done, Absent, BoxRefused, FlashFault, Foreign, Geometry, NoFit, NoMemory, ShelfFault, WriteFault}
+use Rattle.ssu_status.specs.declared.status.Status.TheVariants.{Done, Absent, BoxRefused, FlashFault, Foreign, Geometry}
+use Rattle.ssu_status.specs.declared.status.Status.TheVariants.{NoFit, NoMemory, ShelfFault, WriteFault}
 
 -- all was done but for the line, which was put or not
 abbrev pub IsPrinted : Status → Type 0
@@ -17,13 +18,6 @@ IsBootAnswer FlashFault = Unit {0}
 IsBootAnswer Foreign = Unit {0}
 IsBootAnswer WriteFault = Unit {0}
 IsBootAnswer other = ⊥
-
--- the answer comes of no fault of an object
-abbrev pub IsBootUnfailed : Status → Type 0
-IsBootUnfailed Done = Unit {0}
-IsBootUnfailed Geometry = Unit {0}
-IsBootUnfailed Foreign = Unit {0}
-IsBootUnfailed other = ⊥
 
 -- the fact for the answers after which something was put, or may have been
 abbrev pub OnTaken : Status → Type 0 → Type 0
@@ -56,16 +50,6 @@ IsFormatAnswer NoFit = Unit {0}
 IsFormatAnswer FlashFault = Unit {0}
 IsFormatAnswer WriteFault = Unit {0}
 IsFormatAnswer other = ⊥
-
--- the answer comes of no fault of an object
-abbrev pub IsFormatUnfailed : Status → Type 0
-IsFormatUnfailed Done = Unit {0}
-IsFormatUnfailed (Absent name) = Unit {0}
-IsFormatUnfailed (BoxRefused field) = Unit {0}
-IsFormatUnfailed NoMemory = Unit {0}
-IsFormatUnfailed Geometry = Unit {0}
-IsFormatUnfailed NoFit = Unit {0}
-IsFormatUnfailed other = ⊥
 
 -- the fact for the answers that come of the two files
 abbrev pub OnFilesRefused : Status → Type 0 → Type 0

@@ -1,13 +1,16 @@
 -- What `format` is told, and what it does.
-use Rattle.std.specs.Prelude.{◌≡◌, ◌↔◌, ◌⊎◌, ℕ, ◌<◌, List, length, Option, Result, Ok, Err}
+use Rattle.std.specs.Prelude.{◌≡◌, ◌↔◌, ◌⊎◌, ℕ, ◌<◌, List, length, Option}
 use Rattle.box_file.specs.declared.file.BoxFile.{BoxFile}
 use Rattle.flash_bank.specs.Format.{Formats, first_record}
 use Rattle.flash_bank.specs.Layout.{Geometry as Shape, IsInLimits, bank_len}
+use Rattle.flash_bank.specs.Seen.{FlashSeen}
 use Rattle.ssu_compat.specs.declared.rule.SwId.{SwId}
 use Rattle.ssu_line.specs.Lines.{formatted_line}
-use Rattle.ssu_shelf.specs.Files.{File, Has}
+use Rattle.ssu_io.specs.Files.{File, Has}
+use Rattle.ssu_io.specs.Seen.{SinkSeen}
 use Rattle.ssu_status.specs.declared.status.Status.{Status}
-use Rattle.ssu_status.specs.declared.status.Status.TheVariants.{Done, Absent, BoxRefused, FlashFault, Geometry, NoFit, NoMemory, ShelfFault, WriteFault}
+use Rattle.ssu_status.specs.declared.status.Status.TheVariants.{Done, Absent, BoxRefused, FlashFault, Geometry, NoFit}
+use Rattle.ssu_status.specs.declared.status.Status.TheVariants.{NoMemory, ShelfFault, WriteFault}
 use Rattle.tool_box.specs.Boxes.{TellsBox, box_name}
 use Rattle.tool_box.specs.Fetching.{Lacks}
 
@@ -17,11 +20,6 @@ pub record TellsFiles (held : Option (List File)) (name : List ℕ) (software : 
   pub tells : TellsBox held box_file
   pub software_is : software ≡ box_file.software
   pub has : Has held name image
-
--- the answer is an error, of which this holds
-abbrev pub IsErrWith : {T : Type 0} → (Status → Type 0) → Result T Status → Type 0
-IsErrWith P (Ok value) = ⊥
-IsErrWith P (Err status) = P status
 
 -- the first of the two files that the shelf does not have
 abbrev pub IsFirstAbsent : Option (List File) → List ℕ → List ℕ → Type 0
@@ -41,18 +39,19 @@ pub record Judges (held : Option (List File)) (name : List ℕ) (g : Shape) (sta
   pub judged : Judged g image status
 
 -- The flash is formatted with this software and image, and of the line this was printed.
-pub record Puts (Prints : Option (List ℕ) → Option (List ℕ) → List ℕ → Type 0) (tells : Type 0) (g : Shape) (software : SwId) (image x y : List ℕ)
-    (got got_after : Option (List ℕ)) : Type 0 where
-  pub formats : tells → Formats g (first_record (length image) software) image x y
-  pub prints : Prints got got_after (formatted_line (length image))
+pub record Puts (Prints : Option (List ℕ) → Option (List ℕ) → List ℕ → Type 0) (software : SwId) (image : List ℕ)
+    (flash : FlashSeen) (out : SinkSeen) : Type 0 where
+  pub formats : flash.tells
+      → Formats flash.blocks (first_record (length image) software) image flash.contents flash.contents_after
+  pub prints : Prints out.got out.got_after (formatted_line (length image))
 
 -- The flash is formatted with the files of the shelf.
-pub record FormatsFile (Prints : Option (List ℕ) → Option (List ℕ) → List ℕ → Type 0) (tells : Type 0) (held : Option (List File)) (name : List ℕ)
-    (g : Shape) (x y : List ℕ) (got got_after : Option (List ℕ)) : Type 0 where
+pub record FormatsFile (Prints : Option (List ℕ) → Option (List ℕ) → List ℕ → Type 0) (held : Option (List File))
+    (name : List ℕ) (flash : FlashSeen) (out : SinkSeen) : Type 0 where
   pub software : SwId
   pub image : List ℕ
   pub told : TellsFiles held name software image
-  pub puts : Puts Prints tells g software image x y got got_after
+  pub puts : Puts Prints software image flash out
 
 -- the files were not read for one of these reasons
 abbrev pub IsFilesRefusal : Status → Type 0

@@ -2,3 +2,4 @@ pub mod Answers
 pub mod Blank
 pub mod Boots
 pub mod Formatting
+pub mod Does

@@ -5,8 +5,6 @@ mod blanking;
 mod booting;
 mod formatting;
 mod printing;
-#[cfg(test)]
-mod tests;
 
 pub use blanking::blank;
 pub use booting::boot;

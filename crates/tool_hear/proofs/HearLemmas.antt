@@ -1,19 +1,15 @@
 -- What is heard and put, packet by packet.
-use Rattle.std.proofs.Common.{zero, suc, ◌≡◌, ℕ, ◌+◌, ◌<◌, List, [], ◌∷◌, ◌++◌, length, take, drop, Option, Some, arith, sym, ap, subst, refl, ◌∙◌, append_assoc, append-nil}
-use Rattle.std.specs.List.{concat, slice_get}
-use Rattle.std.proofs.lemmas.List.{take-append-drop}
-use Rattle.ssu_io.specs.Bytes.{Takes, Gains, GainsPrefix}
+use Rattle.std.proofs.Common.{◌≡◌, ℕ, ◌+◌, ◌<◌, List, [], ◌∷◌, ◌++◌, length, Option, sym, ap, subst, refl, ◌∙◌, append_assoc, append-nil}
+use Rattle.std.specs.List.{concat}
+use Rattle.ssu_io.specs.Bytes.{Takes, GainsPrefix}
 use Rattle.ssu_io.specs.SinkBuffer.{MovesOn}
-use Rattle.ssu_io.proofs.BufferLemmas.{MovesOn_join, MovesOn_failed, GainsPrefix_longer}
-use Rattle.ts_input.specs.Next.{TakesFewer}
-use Rattle.ts_input.specs.Behind.{TakesOne}
 use Rattle.ts_section.specs.Events.{Event, Listen, Feed, heard, fed, heard_of, hear}
 use Rattle.ts_section.specs.Hearing.{Hears}
 use Rattle.ts_section.specs.declared.hearer.Hearer.{Hearer}
-use Rattle.packet_text.specs.Puts.{Puts, PutsOfMost, PutsPrefix}
-use Rattle.packet_text.specs.SoFar.{SoFar}
-use Rattle.packet_text.proofs.Pieces.{concat_append}
-use Rattle.packet_text.proofs.Runs.{begin, step, step_failed, end, end_failed, most, most_failed, too_long}
+use Rattle.ts_input.specs.Puts.{PutsPrefix}
+use Rattle.ts_input.specs.SoFar.{SoFar}
+use Rattle.ts_input.proofs.Pieces.{concat_append}
+use Rattle.ts_input.proofs.Runs.{begin, step, step_failed}
 
 fed_more : (earlier : List Event) (ps : List (List ℕ)) (p : List ℕ) → fed earlier (ps ++ p ∷ []) ≡ Feed p ∷ fed earlier ps
 unfolding fed
@@ -96,44 +92,3 @@ pub heard_step_failed : (pid count : ℕ) (before : Hearer) (left left_now left_
 heard_step_failed pid count before left left_now left_then got got_now got_then waited packet each sofar takes one hears failed few =
     step_failed (hear pid) (StandsFor pid before) count left left_now left_then got got_now got_then waited packet (concat each)
     sofar takes one (λ ps many hearing. more_heard pid before packet each hears ps hearing) failed few
-
-pub heard_end : (pid count : ℕ) (hearer : Hearer) (left left_now left_then got got_now got_then : Option (List ℕ)) (waiting : List ℕ)
-    → HeardSoFar pid count hearer left left_now got got_now waiting
-    → TakesFewer left_now left_then 188
-    → Gains got_now got_then waiting
-    → count < 16777216
-    → Puts (hear pid) left left_then got got_then
-heard_end pid count hearer left left_now left_then got got_now got_then waiting sofar rest gains few =
-    end (hear pid) (StandsFor pid hearer) count left left_now left_then got got_now got_then waiting sofar rest gains few
-
-pub heard_end_failed : (pid count : ℕ) (hearer : Hearer) (left left_now left_then got got_now got_then : Option (List ℕ)) (waiting : List ℕ)
-    → HeardSoFar pid count hearer left left_now got got_now waiting
-    → TakesFewer left_now left_then 188
-    → GainsPrefix got_now got_then waiting
-    → count < 16777216
-    → PutsPrefix (hear pid) left left_then got got_then
-heard_end_failed pid count hearer left left_now left_then got got_now got_then waiting sofar rest failed few =
-    end_failed (hear pid) (StandsFor pid hearer) count left left_now left_then got got_now got_then waiting sofar rest failed few
-
-pub heard_most_failed : (pid count : ℕ) (hearer : Hearer) (left left_now got got_now got_then : Option (List ℕ)) (waiting : List ℕ)
-    → count ≡ 16777216 → HeardSoFar pid count hearer left left_now got got_now waiting
-    → GainsPrefix got_now got_then waiting
-    → PutsPrefix (hear pid) left left_now got got_then
-heard_most_failed pid count hearer left left_now got got_now got_then waiting so_many sofar failed =
-    most_failed (hear pid) (StandsFor pid hearer) count left left_now got got_now got_then waiting so_many sofar failed
-
-pub heard_most : (pid count : ℕ) (hearer : Hearer) (left left_now left_then got got_now got_then : Option (List ℕ)) (waiting : List ℕ)
-    → count ≡ 16777216 → HeardSoFar pid count hearer left left_now got got_now waiting
-    → TakesFewer left_now left_then 1
-    → Gains got_now got_then waiting
-    → Puts (hear pid) left left_then got got_then
-heard_most pid count hearer left left_now left_then got got_now got_then waiting so_many sofar rest gains =
-    most (hear pid) (StandsFor pid hearer) count left left_now left_then got got_now got_then waiting so_many sofar rest gains
-
-pub heard_too_long : (pid count : ℕ) (hearer : Hearer) (left left_now left_then got got_now got_then : Option (List ℕ)) (waiting : List ℕ)
-    → count ≡ 16777216 → HeardSoFar pid count hearer left left_now got got_now waiting
-    → TakesOne left_now left_then
-    → Gains got_now got_then waiting
-    → PutsOfMost (hear pid) left left_then got got_then
-heard_too_long pid count hearer left left_now left_then got got_now got_then waiting so_many sofar last gains =
-    too_long (hear pid) (StandsFor pid hearer) count left left_now left_then got got_now got_then waiting so_many sofar last gains

@@ -2,7 +2,5 @@
 #![tactic(auto)]
 
 mod hearing;
-#[cfg(test)]
-mod tests;
 
 pub use hearing::hear;

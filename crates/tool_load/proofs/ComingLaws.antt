@@ -1,17 +1,13 @@
 -- Which verdict comes where: one that is reached at its packet, and one that is not at the end of the input.
 use Rattle.std.proofs.Common.{◌≡◌, ℕ, List, Option, ap, ◌∙◌, arith}
-use Rattle.std.specs.Prelude.{Result, Ok, Err, IfOk, OnErr}
-use Rattle.tool_load.specs.declared.answer.Failing.{Failing}
-use Rattle.tool_load.specs.declared.answer.Failing.TheVariants.{Read, Write, TooLong, Memory}
-use Rattle.tool_load.specs.Failing.{OnWrite}
 use Rattle.ts_input.specs.Packets.{IsAtEnd, IsWithin}
 use Rattle.ssu_answer.specs.declared.level.Level.{Level}
 use Rattle.ssu_answer.specs.declared.level.Level.TheVariants.{Linkage, Program, Component, Notice, Window, Group, Modules}
 use Rattle.ssu_answer.specs.declared.chosen.Chosen.{Chosen}
 use Rattle.ssu_group.specs.Carried.{missing_places}
 use Rattle.tool_load.specs.declared.progress.Progress.{Progress}
-use Rattle.tool_load.specs.declared.verdict.Verdict.{Verdict}
-use Rattle.tool_load.specs.declared.verdict.Verdict.TheVariants.{Loaded, Nothing, Incomplete, BadModule}
+use Rattle.ssu_answer.specs.declared.verdict.Verdict.{Verdict}
+use Rattle.ssu_answer.specs.declared.verdict.Verdict.TheVariants.{Installed, Nothing, Incomplete, BadModule, Unsettled}
 use Rattle.tool_load.specs.Load.{IsReached, IsOpen, IsNothing, IsIncomplete, IsVerdict, HearsIn, HearsAtPacket, ComesOf}
 use Rattle.tool_load.specs.Progress.{StandsFor}
 use Rattle.tool_load.proofs.SearchLaws.{no_group_chosen, wanted_chosen}
@@ -57,17 +53,18 @@ now_in pid left left_after Then Now h f = record { taken = h.taken; takes = h.ta
 pub comes_at_packet : (pid : ℕ) (left left_after : Option (List ℕ)) (progress : Progress) (v : Verdict) (Now : List (List ℕ) → Type 0)
     → HearsAtPacket pid left left_after (λ sections. StandsFor progress sections × IsReached sections) IsOpen
     → ((sections : List (List ℕ)) → StandsFor progress sections → Now sections) → Tells v Now → ComesOf pid left left_after v Now
-comes_at_packet pid left left_after progress (Loaded chosen) Now h now tells = now_at_packet pid left left_after _ Now h (λ sections p. now sections p.0)
+comes_at_packet pid left left_after progress (Installed chosen) Now h now tells = now_at_packet pid left left_after _ Now h (λ sections p. now sections p.0)
 comes_at_packet pid left left_after progress (BadModule id want found) Now h now tells = now_at_packet pid left left_after _ Now h (λ sections p. now sections p.0)
 comes_at_packet pid left left_after progress (Nothing level) Now h now tells =
     absurd (reached_nothing _ level h.now.1 (tells _ (now _ h.now.0)).1)
 comes_at_packet pid left left_after progress (Incomplete chosen missing) Now h now tells =
     absurd (reached_incomplete _ chosen missing h.now.1 (tells _ (now _ h.now.0)).1)
+comes_at_packet pid left left_after progress Unsettled Now h now tells = absurd (tells _ (now _ h.now.0)).1
 
 pub comes_at_end : (pid : ℕ) (left left_after : Option (List ℕ)) (progress : Progress) (v : Verdict) (Now : List (List ℕ) → Type 0)
     → HearsIn pid left left_after IsWithin (λ sections. StandsFor progress sections × IsOpen sections) → IsAtEnd left_after
     → ((sections : List (List ℕ)) → StandsFor progress sections → Now sections) → Tells v Now → ComesOf pid left left_after v Now
-comes_at_end pid left left_after progress (Loaded chosen) Now h end now tells =
+comes_at_end pid left left_after progress (Installed chosen) Now h end now tells =
     let is = (tells _ (now _ h.now.0)).1 in
     absurd (h.now.1 (record { group = chosen.group; plan = is.plan; window = is.window; chooses = is.chooses; filled = is.whole.filled }))
 comes_at_end pid left left_after progress (BadModule id want found) Now h end now tells =
@@ -75,16 +72,4 @@ comes_at_end pid left left_after progress (BadModule id want found) Now h end no
     absurd (h.now.1 (record { group = is.group; plan = is.plan; window = is.window; chooses = is.chooses; filled = is.filled }))
 comes_at_end pid left left_after progress (Nothing level) Now h end now tells = (now_in pid left left_after _ _ h (λ sections p. (now sections p.0, p.1)), end)
 comes_at_end pid left left_after progress (Incomplete chosen missing) Now h end now tells = (now_in pid left left_after _ _ h (λ sections p. (now sections p.0, p.1)), end)
-
--- ---- what follows from what an answer says
-
-pub ok_then : (r : Result Verdict Failing) (P Q : Verdict → Type 0) → IfOk r P → ((v : Verdict) → P v → Q v) → IfOk r Q
-ok_then (Ok v) P Q p f = f v p
-ok_then (Err e) P Q p f = tt
-
-pub write_then : (r : Result Verdict Failing) (P Q : Type 0) → OnErr r P → (P → Q) → OnWrite r Q
-write_then (Ok v) P Q p f = tt
-write_then (Err Read) P Q p f = tt
-write_then (Err Write) P Q p f = f p
-write_then (Err TooLong) P Q p f = tt
-write_then (Err Memory) P Q p f = tt
+comes_at_end pid left left_after progress Unsettled Now h end now tells = absurd (tells _ (now _ h.now.0)).1

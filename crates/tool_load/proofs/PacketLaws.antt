@@ -3,10 +3,9 @@ use Rattle.std.proofs.Common.{◌≡◌, ℕ, ◌+◌, ◌*◌, ◌<◌, List, [
 use Rattle.std.proofs.lemmas.List.{reverse-append}
 use Rattle.ssu_io.specs.Bytes.{Takes}
 use Rattle.ssu_io.proofs.BytesLemmas.{Takes_none, Takes_join}
-use Rattle.ts_input.specs.Packets.{packets, IsWithin, IsOneMore}
-use Rattle.ts_input.specs.Next.{TakesFewer}
-use Rattle.ts_input.specs.Behind.{TakesOne}
-use Rattle.ts_input.proofs.PacketLemmas.{packets_more, packets_end, packets_of_rest}
+use Rattle.ts_input.specs.Input.{TakesPackets}
+use Rattle.ts_input.specs.Packets.{packets}
+use Rattle.ts_input.proofs.PacketLemmas.{packets_more, packets_of_rest}
 use Rattle.ts_section.specs.declared.hearer.Hearer.{Hearer}
 use Rattle.ts_section.specs.Events.{Event, Listen, Feed, heard, heard_of, fed}
 use Rattle.ts_section.specs.Hearing.{Hears}
@@ -124,39 +123,12 @@ at_packet pid count h p left left_now left_then packet Now Before sofar takes on
   before = before;
 }
 
--- an answer at a rest that is no packet
-pub at_rest : (pid count : ℕ) (h : Hearer) (p : Progress) (left left_now left_then : Option (List ℕ)) (Now : List (List ℕ) → Type 0)
-    → (sofar : SoFar pid count h p left left_now) → TakesFewer left_now left_then 188 → count < 16777216 → Now (sections_of pid (packets sofar.taken))
-    → HearsIn pid left left_then IsWithin Now
-at_rest pid count h p left left_now left_then Now sofar rest few now = record {
-  taken = sofar.taken ++ rest.rest;
-  takes = Takes_join left left_now left_then sofar.taken rest.rest sofar.takes rest.takes;
-  bytes = omega (arith, length-append sofar.taken rest.rest, sofar.whole, rest.fewer, few);
-  now = subst (λ (ps : List (List ℕ)). Now (sections_of pid ps)) (sym (packets_end sofar.taken rest.rest count sofar.whole rest.fewer)) now;
+-- an answer once no packet came any more
+pub at_end : (pid : ℕ) (Size : ℕ → Type 0) (left left_then : Option (List ℕ)) (ps : List (List ℕ)) (Now : List (List ℕ) → Type 0)
+    → TakesPackets Size left left_then ps → Now (sections_of pid ps) → HearsIn pid left left_then Size Now
+at_end pid Size left left_then ps Now all now = record {
+  taken = all.taken;
+  takes = all.takes;
+  bytes = all.size;
+  now = subst (λ (qs : List (List ℕ)). Now (sections_of pid qs)) (sym all.all) now;
 }
-
--- an answer behind the greatest number of packets, where no byte came
-pub at_most : (pid count : ℕ) (h : Hearer) (p : Progress) (left left_now left_then : Option (List ℕ)) (Now : List (List ℕ) → Type 0)
-    → (sofar : SoFar pid count h p left left_now) → TakesFewer left_now left_then 1 → count ≡ 16777216 → Now (sections_of pid (packets sofar.taken))
-    → HearsIn pid left left_then IsWithin Now
-at_most pid count h p left left_now left_then Now sofar rest most now =
-    let short : length rest.rest < 188 = omega (arith, rest.fewer) in
-    record {
-      taken = sofar.taken ++ rest.rest;
-      takes = Takes_join left left_now left_then sofar.taken rest.rest sofar.takes rest.takes;
-      bytes = omega (arith, length-append sofar.taken rest.rest, sofar.whole, rest.fewer, most);
-      now = subst (λ (ps : List (List ℕ)). Now (sections_of pid ps)) (sym (packets_end sofar.taken rest.rest count sofar.whole short)) now;
-    }
-
--- the same, where one byte came
-pub at_one_more : (pid count : ℕ) (h : Hearer) (p : Progress) (left left_now left_then : Option (List ℕ)) (Now : List (List ℕ) → Type 0)
-    → (sofar : SoFar pid count h p left left_now) → TakesOne left_now left_then → count ≡ 16777216 → Now (sections_of pid (packets sofar.taken))
-    → HearsIn pid left left_then IsOneMore Now
-at_one_more pid count h p left left_now left_then Now sofar last most now =
-    let short : length last.byte < 188 = omega (arith, last.one) in
-    record {
-      taken = sofar.taken ++ last.byte;
-      takes = Takes_join left left_now left_then sofar.taken last.byte sofar.takes last.takes;
-      bytes = omega (arith, length-append sofar.taken last.byte, sofar.whole, last.one, most);
-      now = subst (λ (ps : List (List ℕ)). Now (sections_of pid ps)) (sym (packets_end sofar.taken last.byte count sofar.whole short)) now;
-    }

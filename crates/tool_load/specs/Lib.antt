@@ -6,5 +6,5 @@ pub mod Packets
 pub mod Ended
 pub mod Wrong
 pub mod Printed
-pub mod Failing
 pub mod Told
+pub mod Does

@@ -1,5 +1,6 @@
 -- Which group `load` takes out of the sections of a PID, and what comes of it. Lists of sections have the newest first.
-use Rattle.std.specs.Prelude.{◌≡◌, ℕ, ◌*◌, ◌<◌, ◌≤◌, ◌&&◌, ◌==◌, List, [], ◌∷◌, ◌++◌, length, reverse, Option, Some, None, if◌then◌else◌}
+use Rattle.std.specs.Prelude.{◌≡◌, ℕ, ◌*◌, ◌<◌, ◌≤◌, ◌&&◌, ◌==◌, List, [], ◌∷◌, ◌++◌, length, reverse, Option, Some}
+use Rattle.std.specs.Prelude.{None, if◌then◌else◌}
 use Rattle.std.specs.List.{slice_get}
 use Rattle.std.specs.Option.{option_and_then, option_map, is_none}
 use Rattle.ssu_io.specs.Bytes.{Takes}
@@ -7,6 +8,7 @@ use Rattle.ts_crc.specs.Crc.{crc_of}
 use Rattle.ts_input.specs.Packets.{packets, most_packets, IsWithin, IsAtEnd}
 use Rattle.ts_section.specs.Events.{Listen, heard_of}
 use Rattle.dsmcc_msg.specs.Control.{GroupFields, DsiFields, DiiFields, dsi, dii}
+use Rattle.ssu_answer.specs.BankLen.{bank_len}
 use Rattle.ssu_answer.specs.Software.{no_software}
 use Rattle.ssu_answer.specs.declared.chosen.Chosen.{Chosen}
 use Rattle.ssu_answer.specs.declared.level.Level.{Level}
@@ -17,14 +19,10 @@ use Rattle.ssu_group.specs.Refusal.{refusal}
 use Rattle.ssu_group.specs.Lays.{IsPlanOf}
 use Rattle.ssu_group.specs.Carried.{CarriesWhole, missing_places, carried_image, wrong_module, module_bytes}
 use Rattle.tool_load.specs.Later.{first_with_later}
-use Rattle.tool_load.specs.declared.verdict.Verdict.{Verdict}
-use Rattle.tool_load.specs.declared.verdict.Verdict.TheVariants.{Loaded, Nothing, Incomplete, BadModule}
+use Rattle.ssu_answer.specs.declared.verdict.Verdict.{Verdict}
+use Rattle.ssu_answer.specs.declared.verdict.Verdict.TheVariants.{Installed, Nothing, Incomplete, BadModule, Unsettled}
 
 -- ---- the group that is taken
-
--- the bytes that a group may have: 128 MiB
-abbrev pub bank_len : ℕ
-bank_len = 134217728
 
 abbrev pub id_of : GroupFields → ℕ
 id_of group = group.id
@@ -131,10 +129,11 @@ IsNothing sections other = ⊥
 
 -- What comes of the sections. The image is that of a group that is loaded.
 abbrev pub IsVerdict : List (List ℕ) → Verdict → List ℕ → Type 0
-IsVerdict sections (Loaded chosen) image = IsLoaded sections chosen image
+IsVerdict sections (Installed chosen) image = IsLoaded sections chosen image
 IsVerdict sections (Nothing level) image = IsNothing sections level
 IsVerdict sections (Incomplete chosen missing) image = IsIncomplete sections chosen missing
 IsVerdict sections (BadModule id want found) image = IsBad sections id want found
+IsVerdict sections Unsettled image = ⊥
 
 -- ---- the sections of an input
 
@@ -149,7 +148,8 @@ abbrev pub IsUnchosen : List (List ℕ) → Type 0
 IsUnchosen sections = IsChosen sections → ⊥
 
 -- So many bytes were taken, and this holds of the sections heard in their packets.
-pub record HearsIn (pid : ℕ) (left left_after : Option (List ℕ)) (Length : ℕ → Type 0) (Now : List (List ℕ) → Type 0) : Type 0 where
+pub record HearsIn (pid : ℕ) (left left_after : Option (List ℕ)) (Length : ℕ → Type 0) (Now : List (List ℕ) → Type 0)
+    : Type 0 where
   pub taken : List ℕ
   pub takes : Takes left left_after taken
   pub bytes : Length (length taken)
@@ -157,7 +157,8 @@ pub record HearsIn (pid : ℕ) (left left_after : Option (List ℕ)) (Length : �
 
 -- Whole packets were taken and nothing behind them. This holds of the sections heard in them, and that held of those
 -- heard in all but the last.
-pub record HearsAtPacket (pid : ℕ) (left left_after : Option (List ℕ)) (Now Before : List (List ℕ) → Type 0) : Type 0 where
+pub record HearsAtPacket (pid : ℕ) (left left_after : Option (List ℕ)) (Now Before : List (List ℕ) → Type 0)
+    : Type 0 where
   pub count : ℕ
   pub earlier : List ℕ
   pub packet : List ℕ
@@ -171,6 +172,7 @@ pub record HearsAtPacket (pid : ℕ) (left left_after : Option (List ℕ)) (Now 
 -- Where a verdict comes: at the packet at which it is reached, or at the end of the input, where none was reached. This
 -- holds of the sections heard.
 abbrev pub ComesOf : ℕ → Option (List ℕ) → Option (List ℕ) → Verdict → (List (List ℕ) → Type 0) → Type 0
-ComesOf pid left left_after (Loaded chosen) Now = HearsAtPacket pid left left_after Now IsOpen
+ComesOf pid left left_after (Installed chosen) Now = HearsAtPacket pid left left_after Now IsOpen
 ComesOf pid left left_after (BadModule id want found) Now = HearsAtPacket pid left left_after Now IsOpen
-ComesOf pid left left_after other Now = HearsIn pid left left_after IsWithin (λ sections. Now sections × IsOpen sections) × IsAtEnd left_after
+ComesOf pid left left_after other Now =
+    HearsIn pid left left_after IsWithin (λ sections. Now sections × IsOpen sections) × IsAtEnd left_after

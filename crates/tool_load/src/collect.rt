@@ -12,9 +12,9 @@ ghost use Rattle.tool_load.specs.Ended.{OnMore, OnReached, OnFull, OnVerdict, On
 use crate::progress::{Progress, hear_each, is_whole};
 use ssu_io::Source;
 use std::alloc::Global;
-use ts_input::{Behind, MAX_PACKETS, Next, PACKET_LEN, behind_last, next_packet};
+use ts_input::PacketInput;
 use ts_packet::{Packet, Pid};
-use ts_section::{Hearer, PidSet, SectionOut};
+use ts_section::{Hearer, SectionOut, only};
 
 /// What came of one packet.
 #[derive(Clone, Copy, Debug, PartialEq, Eq)]
@@ -99,31 +99,17 @@ pub(crate) fn collect<A: Source>(
     ensures later { A.faults air.old ≤ A.faults air.new }
 {
     hearer.listen(&only(pid));
-    let mut packet = [0; PACKET_LEN];
-    for _taken in 0..MAX_PACKETS {
-        match next_packet(air, &mut packet) {
-            Next::Packet => {}
-            Next::End => return Ended::Input,
-            Next::Failed => return Ended::Fault,
-        }
-        match hear_packet(hearer, each, progress, alloc, &packet) {
+    let mut input = PacketInput::new();
+    while input.next(air) {
+        match hear_packet(hearer, each, progress, alloc, input.packet()) {
             Step::More => {}
             Step::Reached => return Ended::Verdict,
             Step::Full => return Ended::Memory,
         }
     }
-    match behind_last(air) {
-        Behind::Nothing => Ended::Input,
-        Behind::More => Ended::TooLong,
-        Behind::Failed => Ended::Fault,
+    match input.ended(air) {
+        ts_input::Ended::End => Ended::Input,
+        ts_input::Ended::Failed => Ended::Fault,
+        ts_input::Ended::TooLong => Ended::TooLong,
     }
-}
-
-/// The set of this PID alone.
-fn only(pid: Pid) -> PidSet
-    ensures { result.items ≡ pid ∷ [] }
-{
-    let mut pids = PidSet::new();
-    pids.push(pid);
-    pids
 }

@@ -1,27 +1,34 @@
 //! `load PID`: the first group of the carousel on a PID.
 
-ghost use Rattle.std.specs.Prelude.{◌≡◌, ◌≤◌, false, ◌⊎◌};
+ghost use Rattle.std.specs.Prelude.{◌≡◌, ◌≤◌, ◌⊎◌, ℕ, List, [], IfOk};
+ghost use Rattle.ssu_answer.specs.declared.verdict.Verdict.{Verdict};
 ghost use Rattle.ssu_io.specs.Faults.{Rose};
-ghost use Rattle.ssu_answer.specs.declared.chosen.Chosen.{Chosen};
-ghost use Rattle.ssu_status.specs.Status.{OnDone, OnNothing, OnIncomplete, OnBadModule, OnReadFault, OnWriteFault, OnTooLong, OnNoMemory};
-ghost use Rattle.ts_input.specs.Packets.{IsOneMore, IsWithin};
-ghost use Rattle.tool_load.specs.declared.verdict.Verdict.{Verdict};
-ghost use Rattle.tool_load.specs.declared.verdict.Verdict.TheVariants.{Loaded, Nothing, Incomplete, BadModule};
-ghost use Rattle.tool_load.specs.Load.{IsOpen, IsChosen, IsUnchosen, HearsIn, HearsAtPacket, ComesOf};
-ghost use Rattle.tool_load.specs.Printed.{is_loaded, PutsPart};
-ghost use Rattle.tool_load.specs.Told.{Tells, status_of as status_of_answer, status_of_verdict as status_of_one, OnNoImage, OnNoVerdict, IsAnswer, IsUnfailed};
+ghost use Rattle.ssu_io.specs.Seen.{sink_seen, source_seen};
+ghost use Rattle.ssu_status.specs.Status.{OnWriteFault};
+ghost use Rattle.ts_section.specs.Hearing.{Hears};
+ghost use Rattle.tool_load.specs.Does.{LoadDoes};
+ghost use Rattle.tool_load.specs.Printed.{PutsAll, PutsPart};
+ghost use Rattle.tool_load.specs.Progress.{StandsFor};
+ghost use Rattle.tool_load.specs.Told.{IsConclusion, OnNoImage, OnTold, status_of as status_of_verdict};
 
-use crate::answer::{Failing, answer};
-use crate::verdict::Verdict;
-use ssu_io::{Sink, Source};
+use crate::collect::{Ended, collect};
+use crate::deciding::{bytes_of, verdict_of};
+use crate::progress::Progress;
+use crate::put::put_verdict;
+use ssu_answer::Verdict;
+use ssu_io::{NoMemory, Sink, Source};
 use ssu_status::Status;
 use std::alloc::Global;
 use ts_packet::Pid;
+use ts_section::{Hearer, SectionOut};
 
 /// Takes the first group of the first DSI on the PID that has a group, then its first DII that can be used for 134,217,728
 /// bytes, then its blocks. Puts its image into `made` once it is whole and each module has the CRC of its descriptor, and
-/// prints what came of it. Packets are taken up to a verdict, to the end of the input, or to a byte behind 16,777,216
-/// packets.
+/// prints what came of it into `out`. Packets are taken up to a verdict or to the end of the input.
+///
+/// `Done` where the group was carried whole, else `Nothing` (level 6 or 7), `Incomplete` or `BadModule`. `NoMemory` before
+/// the first packet, or at the packet at which the group is chosen; `ReadFault` where `air` failed, and `TooLong` at one
+/// byte behind 16,777,216 packets, both before a verdict; `WriteFault` where `made` or `out` failed.
 pub fn load<A: Source, W: Sink, T: Sink>(
     alloc: Global,
     pid: Pid,
@@ -29,53 +36,71 @@ pub fn load<A: Source, W: Sink, T: Sink>(
     made: &mut W,
     out: &mut T,
 ) -> Status
-    ensures done { OnDone result ((chosen : Chosen) × Tells pid (Loaded chosen) (A.left air.old) (A.left air.new) (W.contents made.old) (W.contents made.new) (T.contents out.old) (T.contents out.new)) }
-    ensures nothing { OnNothing result (λ level. Tells pid (Nothing level) (A.left air.old) (A.left air.new) (W.contents made.old) (W.contents made.new) (T.contents out.old) (T.contents out.new)) }
-    ensures incomplete { OnIncomplete result (λ chosen missing. Tells pid (Incomplete chosen missing) (A.left air.old) (A.left air.new) (W.contents made.old) (W.contents made.new) (T.contents out.old) (T.contents out.new)) }
-    ensures bad_module { OnBadModule result (λ id want found. Tells pid (BadModule id want found) (A.left air.old) (A.left air.new) (W.contents made.old) (W.contents made.new) (T.contents out.old) (T.contents out.new)) }
-    ensures read_fault { OnReadFault result (HearsIn pid (A.left air.old) (A.left air.new) IsWithin IsOpen) }
-    ensures too_long { OnTooLong result (HearsIn pid (A.left air.old) (A.left air.new) IsOneMore IsOpen) }
-    ensures write_fault { OnWriteFault result ((v : Verdict) × ComesOf pid (A.left air.old) (A.left air.new) v
-        (λ sections. PutsPart sections v (W.contents made.old) (W.contents made.new) (T.contents out.old) (T.contents out.new)
-        ((out.new ≡ out.old) × Rose (W.faults made.old) (W.faults made.new)) (Rose (T.faults out.old) (T.faults out.new)))
-        × (is_loaded v ≡ false → (made.new ≡ made.old) × Rose (T.faults out.old) (T.faults out.new))) }
-    // Memory is taken before the first packet, and at the packet at which the group is chosen.
-    ensures no_memory { OnNoMemory result ((air.new ≡ air.old) ⊎ HearsAtPacket pid (A.left air.old) (A.left air.new) IsChosen IsUnchosen) }
-    ensures made_kept { OnNoImage result (made.new ≡ made.old) }
-    ensures out_kept { OnNoVerdict result (out.new ≡ out.old) }
-
-    // Why it failed.
-    ensures read_cause { OnReadFault result (Rose (A.faults air.old) (A.faults air.new)) }
-    ensures write_cause { OnWriteFault result (Rose (W.faults made.old) (W.faults made.new) ⊎ Rose (T.faults out.old) (T.faults out.new)) }
-    ensures answer { IsAnswer result }
-    ensures complete { (Rose (A.faults air.old) (A.faults air.new) → ⊥) → (Rose (W.faults made.old) (W.faults made.new) → ⊥)
-        → (Rose (T.faults out.old) (T.faults out.new) → ⊥) → IsUnfailed result }
-    ensures air_later { A.faults air.old ≤ A.faults air.new }
-    ensures made_later { W.faults made.old ≤ W.faults made.new }
-    ensures out_later { T.faults out.old ≤ T.faults out.new }
+    ensures does { LoadDoes pid result (source_seen A.Source air.old air.new) (sink_seen W.Sink made.old made.new)
+        (sink_seen T.Sink out.old out.new) }
 {
-    status_of(answer(alloc, pid, air, made, out))
-}
-
-fn status_of(answer: Result<Verdict, Failing>) -> Status
-    ensures { result ≡ status_of_answer answer }
-{
-    match answer {
-        Ok(verdict) => status_of_verdict(verdict),
-        Err(Failing::Read) => Status::ReadFault,
-        Err(Failing::Write) => Status::WriteFault,
-        Err(Failing::TooLong) => Status::TooLong,
-        Err(Failing::Memory) => Status::NoMemory,
+    let Ok(mut parts) = Parts::new(alloc) else {
+        return Status::NoMemory;
+    };
+    let mut progress = Progress::NoGroup;
+    match collect(
+        &mut parts.hearer,
+        &mut parts.each,
+        &mut progress,
+        alloc,
+        pid,
+        air,
+    ) {
+        Ended::Verdict => conclude(&progress, made, out),
+        Ended::Input => conclude(&progress, made, out),
+        Ended::Fault => Status::ReadFault,
+        Ended::TooLong => Status::TooLong,
+        Ended::Memory => Status::NoMemory,
     }
 }
 
-fn status_of_verdict(verdict: Verdict) -> Status
-    ensures { result ≡ status_of_one verdict }
+/// What hearing needs memory for.
+#[derive(Drop)]
+struct Parts {
+    hearer: Hearer,
+    each: SectionOut,
+}
+
+impl Parts {
+    fn new(alloc: Global) -> Result<Parts, NoMemory>
+        ensures { IfOk result (λ parts. Hears parts.hearer []) }
+    {
+        let hearer = Hearer::new(alloc)?;
+        let each = SectionOut::new(alloc)?;
+        Ok(Parts { hearer, each })
+    }
+}
+
+/// Puts out what comes of the sections so far.
+fn conclude<W: Sink, T: Sink>(progress: &Progress, made: &mut W, out: &mut T) -> Status
+    ensures told { OnTold result (λ v. (sections : List (List ℕ)) → StandsFor progress.now sections
+        → PutsAll sections v (sink_seen W.Sink made.old made.new) (sink_seen T.Sink out.old out.new)) }
+    ensures write_fault { OnWriteFault result ((v : Verdict) × ((sections : List (List ℕ)) → StandsFor progress.now sections
+        → PutsPart sections v (sink_seen W.Sink made.old made.new) (sink_seen T.Sink out.old out.new))) }
+    ensures write_cause { OnWriteFault result
+        (Rose (W.faults made.old) (W.faults made.new) ⊎ Rose (T.faults out.old) (T.faults out.new)) }
+    ensures kept { OnNoImage result (made.new ≡ made.old) }
+    ensures answers { IsConclusion result }
+    ensures made_later { W.faults made.old ≤ W.faults made.new }
+    ensures out_later { T.faults out.old ≤ T.faults out.new }
+{
+    let verdict = verdict_of(progress);
+    match put_verdict(&verdict, bytes_of(progress), made, out) {
+        Ok(()) => status_of(verdict),
+        Err(_) => Status::WriteFault,
+    }
+}
+
+fn status_of(verdict: Verdict) -> Status
+    ensures { result ≡ status_of_verdict verdict }
 {
     match verdict {
-        Verdict::Loaded(_) => Status::Done,
-        Verdict::Nothing(level) => Status::Nothing(level),
-        Verdict::Incomplete(chosen, missing) => Status::Incomplete(chosen, missing),
-        Verdict::BadModule(id, want, found) => Status::BadModule(id, want, found),
+        Verdict::Installed(_) => Status::Done,
+        other => Status::of(other),
     }
 }

@@ -1,7 +1,6 @@
 //! The command `load`: one group out of a carousel, without a flash.
 #![tactic(auto)]
 
-mod answer;
 mod blocks;
 mod collect;
 mod command;
@@ -10,11 +9,7 @@ mod laws;
 mod progress;
 mod put;
 mod reading;
-#[cfg(test)]
-mod tests;
-mod verdict;
 mod wrong;
 
 pub use command::load;
 pub use laws::{first_with_later_steps, verdict_stays};
-pub use verdict::Verdict;

@@ -1,13 +1,14 @@
 //! What a verdict puts out.
 
-ghost use Rattle.std.specs.Prelude.{◌≡◌, ◌≤◌, true, false, OnOk, OnErr, ◌⊎◌};
+ghost use Rattle.std.specs.Prelude.{◌≡◌, ◌≤◌, ◌⊎◌, true, false, OnOk, OnErr};
 ghost use Rattle.ssu_io.specs.Bytes.{Gains, GainsPrefix};
 ghost use Rattle.ssu_io.specs.Faults.{HasCause, Rose};
+ghost use Rattle.ssu_io.specs.Seen.{StopsWriting, sink_seen};
 ghost use Rattle.tool_load.specs.Printed.{line_of as line_of_verdict, made_of, is_loaded};
 
-use crate::verdict::Verdict;
+use ssu_answer::Verdict;
 use ssu_io::{Failed, Sink};
-use ssu_line::{Line, bad_module, incomplete, loaded, nothing};
+use ssu_line::{Line, loaded};
 
 /// Puts the image of a group that is loaded.
 fn put_made<W: Sink>(verdict: &Verdict, image: &[u8], made: &mut W) -> Result<(), Failed>
@@ -18,10 +19,11 @@ fn put_made<W: Sink>(verdict: &Verdict, image: &[u8], made: &mut W) -> Result<()
     ensures kept { is_loaded verdict.now ≡ false → made.new ≡ made.old }
 {
     match verdict {
-        Verdict::Loaded(_) => made.put(image),
+        Verdict::Installed(_) => made.put(image),
         Verdict::Nothing(_) => Ok(()),
         Verdict::Incomplete(_, _) => Ok(()),
         Verdict::BadModule(_, _, _) => Ok(()),
+        Verdict::Unsettled => Ok(()),
     }
 }
 
@@ -30,10 +32,8 @@ fn line_of(verdict: &Verdict) -> Line
     ensures { result.bytes ≡ line_of_verdict verdict.now }
 {
     match verdict {
-        Verdict::Loaded(chosen) => loaded(chosen.group, chosen.bytes),
-        Verdict::Nothing(level) => nothing(*level),
-        Verdict::Incomplete(chosen, missing) => incomplete(chosen.group, *missing),
-        Verdict::BadModule(id, want, found) => bad_module(*id, *want, *found),
+        Verdict::Installed(chosen) => loaded(chosen.group, chosen.bytes),
+        other => ssu_line::verdict(*other),
     }
 }
 
@@ -46,12 +46,8 @@ pub(crate) fn put_verdict<W: Sink, T: Sink>(
 ) -> Result<(), Failed>
     ensures makes { OnOk result (Gains (W.contents made.old) (W.contents made.new) (made_of verdict.now image.now)) }
     ensures prints { OnOk result (Gains (T.contents out.old) (T.contents out.new) (line_of_verdict verdict.now)) }
-    ensures failed { OnErr result
-        ((GainsPrefix (W.contents made.old) (W.contents made.new) (made_of verdict.now image.now)
-        × ((out.new ≡ out.old) × Rose (W.faults made.old) (W.faults made.new)))
-        ⊎ (Gains (W.contents made.old) (W.contents made.new) (made_of verdict.now image.now)
-        × GainsPrefix (T.contents out.old) (T.contents out.new) (line_of_verdict verdict.now)
-        × Rose (T.faults out.old) (T.faults out.new))) }
+    ensures failed { OnErr result (StopsWriting (sink_seen W.Sink made.old made.new) (sink_seen T.Sink out.old out.new)
+        (made_of verdict.now image.now) (line_of_verdict verdict.now)) }
     ensures cause { OnErr result (Rose (W.faults made.old) (W.faults made.new) ⊎ Rose (T.faults out.old) (T.faults out.new)) }
     ensures out_cause { OnErr result (is_loaded verdict.now ≡ false → Rose (T.faults out.old) (T.faults out.new)) }
     ensures kept { is_loaded verdict.now ≡ false → made.new ≡ made.old }

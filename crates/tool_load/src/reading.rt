@@ -8,13 +8,11 @@ ghost use Rattle.dsmcc_msg.specs.View.{ddb_view};
 ghost use Rattle.section_form.specs.Section.{IsRight};
 ghost use Rattle.ssu_group.specs.Refusal.{refusal};
 ghost use Rattle.ssu_group.specs.Lays.{IsPlanOf};
-ghost use Rattle.tool_load.specs.Load.{group_in as group_of_section, dii_in, usable_for, bank_len};
+ghost use Rattle.tool_load.specs.Load.{group_in as group_of_section, dii_in, usable_for};
 
 use dsmcc_msg::{Ddb, Dii, Dsi};
+use ssu_answer::BANK_LEN;
 use ssu_group::GroupPlan;
-
-/// The bytes that a group may have.
-const BANK_LEN: u32 = 134_217_728;
 
 /// The DSI that the section is.
 fn dsi_of(section: &[u8]) -> Option<Dsi<'_>>

@@ -1,23 +1,17 @@
 -- The box of a shelf that tells its files.
-use Rattle.std.proofs.Common.{◌≡◌, ℕ, List, Option, Some, None, Ok, Err, IsErrOf, refl, subst, sym, ◌∙◌}
+use Rattle.std.proofs.Common.{◌≡◌, ℕ, List, Option, Some, None, Ok, Err, refl, ap, subst, IsErrOf}
 use Rattle.box_file.specs.BoxText.{box_of}
 use Rattle.box_file.specs.declared.file.BoxFile.{BoxFile}
-use Rattle.flash_bank.specs.Layout.{Geometry}
-use Rattle.ssu_compat.specs.declared.rule.SwId.{SwId}
-use Rattle.ssu_loader.specs.Decisions.{Decision, Reaches}
-use Rattle.ssu_loader.specs.Replays.{heard_in}
-use Rattle.ssu_loader.specs.Verdicts.{receiver_of}
 use Rattle.ssu_loader.specs.declared.fault.LoadFault.{LoadFault}
 use Rattle.ssu_loader.specs.declared.fault.LoadFault.TheVariants.{Memory}
 use Rattle.ssu_loader.specs.declared.verdict.Verdict.{Verdict}
-use Rattle.ssu_route.specs.Windows.{beginnings}
-use Rattle.ssu_shelf.specs.Files.{File}
+use Rattle.ssu_io.specs.Files.{File}
 use Rattle.ssu_status.specs.Status.{OnBoxRefused, OnShelfFault}
 use Rattle.ssu_status.specs.declared.status.Status.{Status}
 use Rattle.ssu_status.specs.declared.status.Status.TheVariants.{Absent, BoxRefused, NoMemory, ShelfFault}
 use Rattle.tool_box.specs.Boxes.{IsBoxRefusal, RefusesBox, TellsBox, box_name}
 use Rattle.tool_box.specs.Fetching.{TellsAbsence}
-use Rattle.tool_replay.specs.Replaying.{HoldsBox}
+use Rattle.tool_replay.specs.Answers.{HoldsBox, status_of_fault}
 
 same_text : (files : List File) (a b : BoxFile) (h : TellsBox (Some files) a) (t : TellsBox (Some files) b) → h.text ≡ t.text
 same_text files a b h t = let has = h.has in let had = t.has in cc
@@ -45,17 +39,9 @@ box_is_had T (Some files) a ShelfFault holds refusal absence refused failed unfa
 box_is_had T (Some files) a NoMemory holds refusal absence refused failed unfailed memory = memory refl
 box_is_had T (Some files) a other holds refusal absence refused failed unfailed memory = absurd refusal
 
--- what is decided for the box that it tells of is decided for the box that was had
-pub for_box : (held : Option (List File)) (a b : BoxFile) (g : Geometry) (running : SwId) (front : List ℕ) (d : Decision) → HoldsBox held a → TellsBox held b
-    → Reaches (receiver_of a g running) (heard_in (receiver_of a g running) front) d → Reaches (receiver_of b g running) (heard_in (receiver_of b g running) front) d
-for_box held a b g running front d holds tells reaches =
-    subst (λ (box_file : BoxFile). Reaches (receiver_of box_file g running) (heard_in (receiver_of box_file g running) front) d) (same_box held a b holds tells) reaches
+-- what holds for the box that it tells of holds for the box that was had
+pub for_box : (held : Option (List File)) (a b : BoxFile) (P : BoxFile → Type 0) → HoldsBox held a → TellsBox held b → P a → P b
+for_box held a b P holds tells p = subst P (same_box held a b holds tells) p
 
--- and so is the number of choices that begin
-pub begins_for_box : (held : Option (List File)) (a b : BoxFile) (g : Geometry) (running : SwId) (taken : List ℕ) → HoldsBox held a → TellsBox held b
-    → beginnings (receiver_of a g running) (heard_in (receiver_of a g running) taken) ≡ 0 → beginnings (receiver_of b g running) (heard_in (receiver_of b g running) taken) ≡ 0
-begins_for_box held a b g running taken holds tells none =
-    subst (λ (box_file : BoxFile). beginnings (receiver_of box_file g running) (heard_in (receiver_of box_file g running) taken) ≡ 0) (same_box held a b holds tells) none
-
-pub not_memory : (e f : LoadFault) → e ≡ f → (f ≡ Memory → ⊥) → IsErrOf {T = Verdict} (Err e) Memory → ⊥
-not_memory e f is other memory = other (let same : e ≡ Memory = cc in sym is ∙ same)
+pub not_memory : (e : LoadFault) → (status_of_fault e ≡ NoMemory → ⊥) → IsErrOf {T = Verdict} (Err e) Memory → ⊥
+not_memory e other is = let same : e ≡ Memory = cc in other (ap status_of_fault same)

@@ -1,43 +1,45 @@
--- A flash that was not changed, and what is left of it for the box.
-use Rattle.std.proofs.Common.{◌≡◌, ⊎_elim, inl, inr, ℕ, List, refl, subst, sym}
-use Rattle.std.specs.Prelude.{Option}
+-- What a replay leaves of a flash, for the box that the shelf told.
+use Rattle.std.proofs.Common.{◌≡◌, ◌⊎◌, ⊎_elim, inl, inr, ℕ, List, subst, sym}
 use Rattle.box_file.specs.declared.file.BoxFile.{BoxFile}
-use Rattle.flash_bank.specs.Layout.{Geometry}
-use Rattle.flash_bank.specs.Sound.{IsSound}
-use Rattle.flash_dev.specs.Moments.{LeavesOnly}
+use Rattle.flash_bank.specs.Layout.{blocks_of}
+use Rattle.flash_bank.specs.Seen.{flash_seen}
+use Rattle.flash_bank.specs.Sound.{Boot, IsSound}
+use Rattle.flash_dev.specs.declared.device.Flash.{Ghosts as FlashGhosts}
 use Rattle.flash_dev.proofs.Moments.{started, weaker}
-use Rattle.ssu_compat.specs.declared.rule.SwId.{SwId}
-use Rattle.ssu_loader.specs.Replays.{KeepsBoot, ReplayLeaves}
-use Rattle.ssu_loader.specs.Verdicts.{receiver_of}
-use Rattle.ssu_shelf.specs.Files.{File}
+use Rattle.ssu_io.specs.Seen.{ShelfSeen, SourceSeen}
+use Rattle.ssu_loader.specs.Replaying.{AtAnyMoment, receiver_at}
+use Rattle.flash_bank.specs.Leaving.{KeepsBoot}
+use Rattle.ssu_loader.specs.Replays.{ReplayLeaves}
+use Rattle.flash_bank.proofs.LeavingLemmas.{keeps_boot_same}
 use Rattle.tool_box.specs.Boxes.{TellsBox}
-use Rattle.tool_replay.specs.Replaying.{CommandLeaves}
+use Rattle.tool_replay.specs.Answers.{InstallsForBox}
 
-keeps_same : (g : Geometry) (x : List ℕ) → IsSound g x → KeepsBoot g x x
-keeps_same g x sound = record {
-  keeps = record { sound = sound; boot = λ b is. is; prev = λ b is. is };
-  outside = record { size = refl; same = λ block k current outside out. refl };
-}
-
-module _ (held : Option (List File)) (running : SwId) (left left_after : Option (List ℕ)) (g : Geometry) (x : List ℕ) where
+module _ {F : Type 0} (f : FlashGhosts F) (shelf : ShelfSeen) (air : SourceSeen) (old new : F) (former : Boot) where
   abbrev Leaves : List ℕ → Type 0
-  Leaves = CommandLeaves held running left left_after g x
-
-  -- nothing was changed
-  pub holds_same : IsSound g x → Leaves x
-  holds_same sound = inl (keeps_same g x sound)
-
-  pub leaves_same : {F : Type 0} (moment : F → ℕ) (left_since : F → ℕ → List ℕ → Type 0) (flash : F) → ((c : List ℕ) → left_since flash (moment flash) c → c ≡ x) → IsSound g x
-      → LeavesOnly moment left_since flash flash Leaves
-  leaves_same moment left_since flash only_now sound =
-      started moment left_since flash Leaves (λ c now. subst Leaves (sym (only_now c now)) (holds_same sound))
+  Leaves left = KeepsBoot (blocks_of f old) (f.contents old) left ⊎ InstallsForBox shelf air (flash_seen f old new) former left
 
   -- what a replay leaves, it leaves for the box that the shelf told
-  pub holds_for : (box_file : BoxFile) (y : List ℕ) → TellsBox held box_file → ReplayLeaves (receiver_of box_file g running) left left_after g x y → Leaves y
-  holds_for box_file y told leaves = ⊎_elim (λ kept. inl kept)
-      (λ taken. inr (record { box_file = box_file; told = told; chosen = taken.0; installs = taken.1 })) leaves
+  pub holds_for : (box_file : BoxFile) (left : List ℕ) → TellsBox shelf.held box_file
+      → ReplayLeaves (receiver_at box_file (flash_seen f old new) former) air.left air.left_after (blocks_of f old) (f.contents old) left → Leaves left
+  holds_for box_file left told = ⊎_elim (λ kept. inl kept)
+      (λ taken. inr (record { box_file = box_file; told = told; chosen = taken.0; installs = taken.1 }))
 
-  pub leaves_for : {F : Type 0} (moment : F → ℕ) (left_since : F → ℕ → List ℕ → Type 0) (old new : F) (box_file : BoxFile) → TellsBox held box_file
-      → LeavesOnly moment left_since old new (ReplayLeaves (receiver_of box_file g running) left left_after g x) → LeavesOnly moment left_since old new Leaves
-  leaves_for moment left_since old new box_file told only =
-      weaker moment left_since old new (ReplayLeaves (receiver_of box_file g running) left left_after g x) Leaves (λ c leaves. holds_for box_file c told leaves) only
+  pub leaves_for : (box_file : BoxFile) → TellsBox shelf.held box_file
+      → AtAnyMoment (flash_seen f old new) (ReplayLeaves (receiver_at box_file (flash_seen f old new) former) air.left air.left_after (blocks_of f old) (f.contents old))
+      → AtAnyMoment (flash_seen f old new) Leaves
+  leaves_for box_file told at = record {
+    left = weaker f.moment f.left_since old new (ReplayLeaves (receiver_at box_file (flash_seen f old new) former) air.left air.left_after (blocks_of f old) (f.contents old)) Leaves
+        (λ c leaves. holds_for box_file c told leaves) at.left;
+    held = holds_for box_file (f.contents new) told at.held;
+  }
+
+-- nothing was called
+pub leaves_same : {F : Type 0} (f : FlashGhosts F) (shelf : ShelfSeen) (air : SourceSeen) (flash : F) (former : Boot)
+    → ((c : List ℕ) → f.left_since flash (f.moment flash) c → c ≡ f.contents flash) → IsSound (blocks_of f flash) (f.contents flash)
+    → AtAnyMoment (flash_seen f flash flash) (Leaves f shelf air flash flash former)
+leaves_same f shelf air flash former only_now sound =
+    let same : Leaves f shelf air flash flash former (f.contents flash) = inl (keeps_boot_same (blocks_of f flash) (f.contents flash) sound) in
+    record {
+      left = started f.moment f.left_since flash (Leaves f shelf air flash flash former) (λ c now. subst (Leaves f shelf air flash flash former) (sym (only_now c now)) same);
+      held = same;
+    }

@@ -1,10 +1,24 @@
--- What `replay` answers, and facts for several answers.
-use Rattle.std.specs.Prelude.{ℕ, List}
+-- What each answer of `replay` says.
+use Rattle.std.specs.Prelude.{◌≡◌, ℕ, Bool, List, Option, Some, None}
+use Rattle.box_file.specs.declared.file.BoxFile.{BoxFile}
+use Rattle.flash_bank.specs.Seen.{FlashSeen}
+use Rattle.flash_bank.specs.Sound.{Boot}
+use Rattle.ssu_answer.specs.declared.chosen.Chosen.{Chosen}
+use Rattle.ssu_io.specs.Bytes.{Gains, GainsPrefix}
+use Rattle.ssu_io.specs.Faults.{Rose}
+use Rattle.ssu_io.specs.Files.{File}
+use Rattle.ssu_io.specs.Seen.{ShelfSeen, SinkSeen, SourceSeen}
 use Rattle.ssu_line.specs.Lines.{bad_module_line, incomplete_line, installed_line, nothing_line, unsettled_line}
+use Rattle.ssu_loader.specs.Replaying.{Ends, Fails, IsNotBegun, receiver_at}
+use Rattle.ssu_loader.specs.Replays.{TakesAndInstalls}
+use Rattle.ssu_loader.specs.declared.fault.LoadFault.{LoadFault}
+use Rattle.ssu_loader.specs.declared.fault.LoadFault.TheVariants as load_fault
 use Rattle.ssu_loader.specs.declared.verdict.Verdict.{Verdict}
 use Rattle.ssu_loader.specs.declared.verdict.Verdict.TheVariants as verdict
 use Rattle.ssu_status.specs.declared.status.Status.{Status}
 use Rattle.ssu_status.specs.declared.status.Status.TheVariants.{Installed, BoxRefused, Foreign, Nothing, Incomplete, BadModule, Absent, ReadFault, WriteFault, FlashFault, Worn, TooLong, NoMemory, Geometry, ShelfFault, Unsettled}
+use Rattle.tool_box.specs.Boxes.{RefusesBox, TellsBox, box_name}
+use Rattle.tool_box.specs.Fetching.{Lacks}
 
 -- the status of a verdict
 abbrev pub status_of : Verdict → Status
@@ -14,7 +28,17 @@ status_of (verdict.Incomplete chosen missing) = Incomplete chosen missing
 status_of (verdict.BadModule id want found) = BadModule id want found
 status_of verdict.Unsettled = Unsettled
 
--- its line
+-- the status of a replay without one
+abbrev pub status_of_fault : LoadFault → Status
+status_of_fault load_fault.Geometry = Geometry
+status_of_fault load_fault.FlashFault = FlashFault
+status_of_fault load_fault.Foreign = Foreign
+status_of_fault load_fault.Worn = Worn
+status_of_fault load_fault.Memory = NoMemory
+status_of_fault load_fault.ReadFault = ReadFault
+status_of_fault load_fault.TooLong = TooLong
+
+-- the line of a verdict
 abbrev pub line_of : Verdict → List ℕ
 line_of (verdict.Installed chosen) = installed_line chosen
 line_of (verdict.Nothing level) = nothing_line level
@@ -22,77 +46,64 @@ line_of (verdict.Incomplete chosen missing) = incomplete_line chosen.group missi
 line_of (verdict.BadModule id want found) = bad_module_line id want found
 line_of verdict.Unsettled = unsettled_line
 
--- what the command answers, and nothing else
-abbrev pub IsAnswer : Status → Type 0
-IsAnswer (Installed chosen) = Unit {0}
-IsAnswer (BoxRefused field) = Unit {0}
-IsAnswer Foreign = Unit {0}
-IsAnswer (Nothing level) = Unit {0}
-IsAnswer (Incomplete chosen missing) = Unit {0}
-IsAnswer (BadModule id want found) = Unit {0}
-IsAnswer (Absent name) = Unit {0}
-IsAnswer ReadFault = Unit {0}
-IsAnswer WriteFault = Unit {0}
-IsAnswer FlashFault = Unit {0}
-IsAnswer Worn = Unit {0}
-IsAnswer TooLong = Unit {0}
-IsAnswer NoMemory = Unit {0}
-IsAnswer Geometry = Unit {0}
-IsAnswer ShelfFault = Unit {0}
-IsAnswer Unsettled = Unit {0}
-IsAnswer other = ⊥
+-- The shelf told a box, this verdict came for it, and of its line this was printed.
+pub record Tells (in_bank : Bool) (verdict : Verdict) (Prints : Option (List ℕ) → Option (List ℕ) → List ℕ → Type 0) (shelf : ShelfSeen)
+    (air : SourceSeen) (flash : FlashSeen) (out : SinkSeen) : Type 0 where
+  pub box_file : BoxFile
+  pub told : TellsBox shelf.held box_file
+  pub ends : Ends in_bank box_file air flash verdict
+  pub prints : Prints out.got out.got_after (line_of verdict)
 
--- the answer comes of no fault of an object
-abbrev pub IsUnfailed : Status → Type 0
-IsUnfailed ReadFault = ⊥
-IsUnfailed WriteFault = ⊥
-IsUnfailed FlashFault = ⊥
-IsUnfailed ShelfFault = ⊥
-IsUnfailed other = IsAnswer other
+-- The shelf told a box, and this is why no verdict came for it. Nothing was printed.
+pub record Refuses (fault : LoadFault) (shelf : ShelfSeen) (air : SourceSeen) (flash : FlashSeen) (out : SinkSeen) : Type 0 where
+  pub box_file : BoxFile
+  pub told : TellsBox shelf.held box_file
+  pub fails : Fails box_file air flash fault
+  pub unprinted : out.same
 
--- the fact for the answers that come of the box file
-abbrev pub OnFileRefused : Status → Type 0 → Type 0
-OnFileRefused (BoxRefused field) fact = fact
-OnFileRefused (Absent name) fact = fact
-OnFileRefused ShelfFault fact = fact
-OnFileRefused other fact = Unit {0}
+-- Source, flash and output were not called.
+abbrev pub IsNotCalled : SourceSeen → FlashSeen → SinkSeen → Type 0
+IsNotCalled air flash out = air.same × (flash.same × out.same)
 
--- the fact for the answers that come before a packet is taken, but for a fault of the flash
-abbrev pub OnUnopened : Status → Type 0 → Type 0
-OnUnopened Foreign fact = fact
-OnUnopened Worn fact = fact
-OnUnopened NoMemory fact = fact
-OnUnopened Geometry fact = fact
-OnUnopened other fact = OnFileRefused other fact
+-- What the answer says. There is no other one.
+abbrev pub Says : Bool → Status → ShelfSeen → SourceSeen → FlashSeen → SinkSeen → Type 0
+Says in_bank (Installed chosen) shelf air flash out = Tells in_bank (verdict.Installed chosen) Gains shelf air flash out
+Says in_bank (Nothing level) shelf air flash out = Tells in_bank (verdict.Nothing level) Gains shelf air flash out
+Says in_bank (Incomplete chosen missing) shelf air flash out = Tells in_bank (verdict.Incomplete chosen missing) Gains shelf air flash out
+Says in_bank (BadModule id want found) shelf air flash out = Tells in_bank (verdict.BadModule id want found) Gains shelf air flash out
+Says in_bank Unsettled shelf air flash out = Tells in_bank verdict.Unsettled Gains shelf air flash out
+Says in_bank WriteFault shelf air flash out =
+    Rose out.faults out.faults_after × ((told : Verdict) × Tells in_bank told GainsPrefix shelf air flash out)
+Says in_bank ReadFault shelf air flash out = Refuses load_fault.ReadFault shelf air flash out
+Says in_bank TooLong shelf air flash out = Refuses load_fault.TooLong shelf air flash out
+Says in_bank FlashFault shelf air flash out = Refuses load_fault.FlashFault shelf air flash out
+Says in_bank Geometry shelf air flash out = Refuses load_fault.Geometry shelf air flash out
+Says in_bank Foreign shelf air flash out = Refuses load_fault.Foreign shelf air flash out
+Says in_bank Worn shelf air flash out = Refuses load_fault.Worn shelf air flash out
+Says in_bank NoMemory shelf air flash out = IsNotBegun air flash × out.same
+Says in_bank (Absent name) shelf air flash out = IsNotCalled air flash out × ((name.bytes ≡ box_name) × Lacks shelf.held name.bytes)
+Says in_bank (BoxRefused field) shelf air flash out = IsNotCalled air flash out × RefusesBox shelf.held field.bytes
+Says in_bank ShelfFault shelf air flash out = IsNotCalled air flash out
+Says in_bank other shelf air flash out = ⊥
 
--- the fact for the answers at which the box was read
-abbrev pub OnBoxRead : Status → Type 0 → Type 0
-OnBoxRead (BoxRefused field) fact = Unit {0}
-OnBoxRead (Absent name) fact = Unit {0}
-OnBoxRead ShelfFault fact = Unit {0}
-OnBoxRead NoMemory fact = Unit {0}
-OnBoxRead other fact = fact
+-- ---- for the promise
 
--- the fact for the answers of a loader that was opened, but for a fault of the flash
-abbrev pub OnOpened : Status → Type 0 → Type 0
-OnOpened Foreign fact = Unit {0}
-OnOpened Geometry fact = Unit {0}
-OnOpened FlashFault fact = Unit {0}
-OnOpened Worn fact = Unit {0}
-OnOpened other fact = OnBoxRead other fact
+-- the shelf tells its files, and its box file tells of this box
+abbrev pub HoldsBox : Option (List File) → BoxFile → Type 0
+HoldsBox (Some files) box_file = TellsBox (Some files) box_file
+HoldsBox None box_file = ⊥
 
--- the fact for the answers that come without a verdict, though packets were taken
-abbrev pub OnCutShort : Status → Type 0 → Type 0
-OnCutShort ReadFault fact = fact
-OnCutShort TooLong fact = fact
-OnCutShort other fact = Unit {0}
+-- The shelf told a box, the packets that were taken carry this group whole for it, not without the last of them, and y is x with
+-- its image installed.
+pub record InstallsForBox (shelf : ShelfSeen) (air : SourceSeen) (flash : FlashSeen) (former : Boot) (left : List ℕ) : Type 0 where
+  pub box_file : BoxFile
+  pub told : TellsBox shelf.held box_file
+  pub chosen : Chosen
+  pub installs : TakesAndInstalls (receiver_at box_file flash former) air.left air.left_after flash.blocks flash.contents left chosen
 
--- the fact for the answers before the line
-abbrev pub OnUnprinted : Status → Type 0 → Type 0
-OnUnprinted (Installed chosen) fact = Unit {0}
-OnUnprinted (Nothing level) fact = Unit {0}
-OnUnprinted (Incomplete chosen missing) fact = Unit {0}
-OnUnprinted (BadModule id want found) fact = Unit {0}
-OnUnprinted Unsettled fact = Unit {0}
-OnUnprinted WriteFault fact = Unit {0}
-OnUnprinted other fact = fact
+-- No count of faults rose.
+pub record NoneFailed (shelf : ShelfSeen) (air : SourceSeen) (flash : FlashSeen) (out : SinkSeen) : Type 0 where
+  pub shelf_well : ¬ Rose shelf.faults shelf.faults_after
+  pub air_well : ¬ Rose air.faults air.faults_after
+  pub flash_well : ¬ Rose flash.faults flash.faults_after
+  pub out_well : ¬ Rose out.faults out.faults_after

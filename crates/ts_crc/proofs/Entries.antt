@@ -4,6 +4,7 @@ use Rattle.std.proofs.lemmas.Bool.{false≢true}
 use Rattle.ts_crc.specs.Crc.{after_bit, after_byte}
 use Rattle.ts_crc.specs.Tables.{lane}
 use Rattle.ts_crc.specs.declared.tables.TheConstants.{TABLE_0, TABLE_1, TABLE_2, TABLE_3, TABLE_4, TABLE_5, TABLE_6, TABLE_7}
+use Rattle.ts_crc.specs.declared.later_tables.TheConstants.{TABLE_8, TABLE_9, TABLE_10, TABLE_11, TABLE_12, TABLE_13, TABLE_14, TABLE_15}
 
 -- a table of what the register holds after each byte in turn
 is_first_table : ℕ → List ℕ → Bool
@@ -76,6 +77,38 @@ is_table_7 : is_next_table TABLE_6 TABLE_7 ≡ true
 unfolding is_next_table after_byte after_bit
 is_table_7 = refl
 
+is_table_8 : is_next_table TABLE_7 TABLE_8 ≡ true
+unfolding is_next_table after_byte after_bit
+is_table_8 = refl
+
+is_table_9 : is_next_table TABLE_8 TABLE_9 ≡ true
+unfolding is_next_table after_byte after_bit
+is_table_9 = refl
+
+is_table_10 : is_next_table TABLE_9 TABLE_10 ≡ true
+unfolding is_next_table after_byte after_bit
+is_table_10 = refl
+
+is_table_11 : is_next_table TABLE_10 TABLE_11 ≡ true
+unfolding is_next_table after_byte after_bit
+is_table_11 = refl
+
+is_table_12 : is_next_table TABLE_11 TABLE_12 ≡ true
+unfolding is_next_table after_byte after_bit
+is_table_12 = refl
+
+is_table_13 : is_next_table TABLE_12 TABLE_13 ≡ true
+unfolding is_next_table after_byte after_bit
+is_table_13 = refl
+
+is_table_14 : is_next_table TABLE_13 TABLE_14 ≡ true
+unfolding is_next_table after_byte after_bit
+is_table_14 = refl
+
+is_table_15 : is_next_table TABLE_14 TABLE_15 ≡ true
+unfolding is_next_table after_byte after_bit
+is_table_15 = refl
+
 -- a longer lane by one
 next-lane : (many byte : ℕ) (xs ys : List ℕ) → is_next_table xs ys ≡ true → byte < length ys
     → get_or xs byte 0 ≡ lane many byte → get_or ys byte 0 ≡ lane (suc many) byte
@@ -106,3 +139,27 @@ entry_6 byte h = next-lane 5 byte TABLE_5 TABLE_6 is_table_6 h (entry_5 byte h)
 
 pub entry_7 : (byte : ℕ) → byte < 256 → get_or TABLE_7 byte 0 ≡ lane 7 byte
 entry_7 byte h = next-lane 6 byte TABLE_6 TABLE_7 is_table_7 h (entry_6 byte h)
+
+pub entry_8 : (byte : ℕ) → byte < 256 → get_or TABLE_8 byte 0 ≡ lane 8 byte
+entry_8 byte h = next-lane 7 byte TABLE_7 TABLE_8 is_table_8 h (entry_7 byte h)
+
+pub entry_9 : (byte : ℕ) → byte < 256 → get_or TABLE_9 byte 0 ≡ lane 9 byte
+entry_9 byte h = next-lane 8 byte TABLE_8 TABLE_9 is_table_9 h (entry_8 byte h)
+
+pub entry_10 : (byte : ℕ) → byte < 256 → get_or TABLE_10 byte 0 ≡ lane 10 byte
+entry_10 byte h = next-lane 9 byte TABLE_9 TABLE_10 is_table_10 h (entry_9 byte h)
+
+pub entry_11 : (byte : ℕ) → byte < 256 → get_or TABLE_11 byte 0 ≡ lane 11 byte
+entry_11 byte h = next-lane 10 byte TABLE_10 TABLE_11 is_table_11 h (entry_10 byte h)
+
+pub entry_12 : (byte : ℕ) → byte < 256 → get_or TABLE_12 byte 0 ≡ lane 12 byte
+entry_12 byte h = next-lane 11 byte TABLE_11 TABLE_12 is_table_12 h (entry_11 byte h)
+
+pub entry_13 : (byte : ℕ) → byte < 256 → get_or TABLE_13 byte 0 ≡ lane 13 byte
+entry_13 byte h = next-lane 12 byte TABLE_12 TABLE_13 is_table_13 h (entry_12 byte h)
+
+pub entry_14 : (byte : ℕ) → byte < 256 → get_or TABLE_14 byte 0 ≡ lane 14 byte
+entry_14 byte h = next-lane 13 byte TABLE_13 TABLE_14 is_table_14 h (entry_13 byte h)
+
+pub entry_15 : (byte : ℕ) → byte < 256 → get_or TABLE_15 byte 0 ≡ lane 15 byte
+entry_15 byte h = next-lane 14 byte TABLE_14 TABLE_15 is_table_15 h (entry_14 byte h)

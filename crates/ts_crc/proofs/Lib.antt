@@ -1,4 +1,4 @@
-mod Eight
+mod Sixteen
 mod Entries
 mod Linear
 pub mod CrcLaws

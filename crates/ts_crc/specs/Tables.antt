@@ -1,4 +1,4 @@
--- What eight tables hold, so that eight bytes go into the register at once.
+-- What sixteen tables hold, so that sixteen bytes go into the register at once.
 use Rattle.std.specs.Prelude.{zero, suc, ℕ}
 use Rattle.ts_crc.specs.Crc.{after_byte}
 

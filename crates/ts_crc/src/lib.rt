@@ -3,10 +3,9 @@
 //! Polynomial 0x04C11DB7, start value 0xFFFFFFFF, highest bit first, no reflection and no exclusive or at the end.
 #![tactic(auto)]
 
+mod later_tables;
 mod register;
 mod steps;
 mod tables;
-#[cfg(test)]
-mod tests;
 
 pub use register::{Register, crc};

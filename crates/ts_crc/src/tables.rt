@@ -1,4 +1,4 @@
-//! The tables by which eight bytes go into the register at once.
+//! The tables by which sixteen bytes go into the register at once: those of the last eight.
 //!
 //! Entry i of table k is what a register of 0 holds after the byte i and k bytes 0 behind it. Table 0 follows from the
 //! polynomial, and each later one from the one before; the proofs compute each entry again.

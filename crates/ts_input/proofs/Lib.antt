@@ -1,1 +1,4 @@
+pub mod InputLemmas
 pub mod PacketLemmas
+pub mod Pieces
+pub mod Runs

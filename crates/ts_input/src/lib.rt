@@ -3,9 +3,9 @@
 
 mod behind;
 mod fill;
+mod input;
 mod next;
-#[cfg(test)]
-mod tests;
 
 pub use behind::{Behind, MAX_PACKETS, behind_last};
-pub use next::{Next, PACKET_LEN, next_packet};
+pub use input::{Ended, PacketInput};
+pub use next::{Next, next_packet};

@@ -7,9 +7,7 @@ ghost use Rattle.ts_input.specs.Packets.{IsAtEnd};
 
 use crate::fill::fill;
 use ssu_io::Source;
-
-/// The bytes of a packet.
-pub const PACKET_LEN: usize = 188;
+use ts_packet::{PACKET_LEN, Packet};
 
 /// What came next.
 #[derive(Clone, Copy, Debug, PartialEq, Eq)]
@@ -23,7 +21,7 @@ pub enum Next {
 }
 
 /// Takes the next packet.
-pub fn next_packet<A: Source>(air: &mut A, packet: &mut [u8; 188]) -> Next
+pub fn next_packet<A: Source>(air: &mut A, packet: &mut Packet) -> Next
     ensures packet { OnPacket result (Takes (A.left air.old) (A.left air.new) packet.new) }
     ensures end { OnEnd result (IsAtEnd (A.left air.new)) }
     ensures rest { OnEnd result (TakesFewer (A.left air.old) (A.left air.new) 188) }

@@ -5,10 +5,8 @@
 
 mod packet;
 mod pid;
-#[cfg(test)]
-mod tests;
 mod writing;
 
-pub use packet::{PACKET_LEN, Packet, View, read};
+pub use packet::{PACKET_LEN, Packet, View, pid_of, read};
 pub use pid::Pid;
 pub use writing::write;

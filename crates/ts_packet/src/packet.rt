@@ -6,7 +6,7 @@
 
 ghost use Rattle.std.specs.Prelude.{◌≡◌, ◌<◌, ◌≤◌, length, IfSome};
 ghost use Rattle.std.specs.Option.{option_map};
-ghost use Rattle.ts_packet.specs.Packet.{InRange, usable, is_intact, payload_of, pointed_in};
+ghost use Rattle.ts_packet.specs.Packet.{InRange, usable, is_intact, payload_of, pid_of, pointed_in};
 ghost use Rattle.ts_packet.specs.Shown.{shown};
 
 use crate::pid::Pid;
@@ -23,6 +23,7 @@ pub type Packet = [u8; 188];
 /// What a usable packet carries.
 #[derive(Clone, Copy, Debug)]
 pub struct View<'a> {
+    /// The PID.
     pub pid: Pid,
     /// continuity_counter, below 16.
     pub counter: u8,
@@ -30,6 +31,7 @@ pub struct View<'a> {
     pub start: bool,
     /// The index in `payload` that the pointer_field points to, or 0 without `start`.
     pub pointed: u8,
+    /// The bytes behind the header and the adaptation field, 1 to 184.
     pub payload: &'a [u8],
 }
 
@@ -42,6 +44,13 @@ pub fn read(packet: &Packet) -> Option<View<'_>>
     ensures ranges { IfSome result (λ v. InRange (shown v)) }
 {
     read_slice(packet)
+}
+
+/// The PID that the packet names, whether it is usable or not.
+pub fn pid_of(packet: &Packet) -> Pid
+    ensures { result ≡ pid_of packet.now }
+{
+    Pid::of_bytes(packet[1], packet[2])
 }
 
 #[tactic(auto, unfolding(crate::specs::Packet::usable))]

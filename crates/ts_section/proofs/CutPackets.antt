@@ -1,9 +1,9 @@
 -- The packets of a section, one after another.
-use Rattle.std.proofs.Common.{suc, ◌≡◌, ℕ, ◌+◌, ◌-◌, ◌%◌, ◌<◌, ◌≤◌, Bool, true, false, List, [], ◌∷◌, ◌++◌, length, take, drop, replicate, refl, ap, sym, ◌∙◌, arith, append_assoc, length-append, length-drop, length-take, Result, Ok, Err, OnErr}
+use Rattle.std.proofs.Common.{suc, ◌≡◌, ℕ, ◌+◌, ◌-◌, ◌%◌, ◌<◌, ◌≤◌, Bool, true, false, List, [], ◌∷◌, ◌++◌, length, take, drop, replicate, refl, ap, sym, subst, ◌∙◌, true≢false, arith, length-drop, length-take, Result, Ok, Err, OnErr}
 use Rattle.std.specs.List.{concat}
-use Rattle.std.proofs.lemmas.List.{take-replicate, take-append-le, take-take, take_all}
+use Rattle.std.proofs.lemmas.List.{take-replicate, take-append-le}
 use Rattle.ts_packet.specs.Packet.{packet_bytes}
-use Rattle.ts_section.specs.Cut.{filled, payloads, payload_count, packets_with, cut_packets, with_pointer, Begins}
+use Rattle.ts_section.specs.Cut.{filled, payloads, payload_count, packets_with, Cutting, cutting_of, packets_left, cut_packets, with_pointer, Begins}
 
 -- bytes with as many 0xFF behind them as there is room for
 pub stuffed : (all front bytes : List ℕ) (len : ℕ) → front ≡ bytes → len ≡ length front → len ≤ 184
@@ -27,13 +27,6 @@ unfolding packets_with payloads
 packets_with-none pid counter [] e = refl
 packets_with-none pid counter (b ∷ rest) e = absurd (omega arith)
 
-pub rest_more : (pid next : ℕ) (rest front behind out longer all : List ℕ) → 0 < length rest → front ≡ take 184 rest → behind ≡ drop 184 rest
-    → longer ≡ out ++ packet_bytes pid next false (filled front)
-    → out ++ concat (packets_with pid next false (payloads (payload_count rest) rest)) ≡ all
-    → longer ++ concat (packets_with pid ((next + 1) % 16) false (payloads (payload_count behind) behind)) ≡ all
-rest_more pid next rest front behind out longer all h e k told before =
-    rw (told, e, k, append_assoc) (rw (packets_with-more pid next false rest h) at before)
-
 pub begins_more : (old out longer more : List ℕ) → Begins old out → longer ≡ out ++ more → Begins old longer
 begins_more old out longer more b e =
     let cut = length-take (length old) out in
@@ -41,26 +34,9 @@ begins_more old out longer more b e =
     let fits : length old ≤ length out = omega arith in
     rw (e, take-append-le (length old) out more fits) b
 
-pub begins_all : (old out longer : List ℕ) (more : List ℕ) → out ≡ old ++ more → Begins out longer → Begins old longer
-begins_all old out longer more e b =
-    let size = ap length e in
-    let sum = length-append old more in
-    let fits : length old ≤ length out = omega arith in
-    sym (take-take (length old) (length out) longer fits)
-    ∙ ap (take (length old)) (b ∙ e)
-    ∙ take-append-le (length old) old more (omega arith)
-    ∙ take_all (length old) old (omega arith)
-
 pub on_err : {T E P Q : Type 0} (r : Result T E) → (P → Q) → OnErr r P → OnErr r Q
 on_err (Ok x) f h = h
 on_err (Err e) f h = f h
-
-pub count_more : (counter last : ℕ) (rest behind : List ℕ) → 0 < length rest → behind ≡ drop 184 rest
-    → (counter + payload_count rest) % 16 ≡ last → ((counter + 1) % 16 + payload_count behind) % 16 ≡ last
-count_more counter last rest behind h e told =
-    let more = payload_count-more rest h in
-    let same = ap payload_count e in
-    omega arith
 
 -- the first packet and those of the rest
 pub cut_packets-first : (section : List ℕ) (pid counter : ℕ)
@@ -71,8 +47,41 @@ cut_packets-first section pid counter =
     let some : 0 < length (with_pointer section) = omega arith in
     packets_with-more pid counter true (with_pointer section) some
 
-pub all_packets : (pid counter : ℕ) (section front rest out longer all : List ℕ) → front ≡ take 183 section → rest ≡ drop 183 section
-    → longer ≡ out ++ packet_bytes pid counter true (filled (0 ∷ front))
-    → longer ++ concat (packets_with pid ((counter + 1) % 16) false (payloads (payload_count rest) rest)) ≡ out ++ concat (cut_packets section pid counter)
-all_packets pid counter section front rest out longer all e k told =
-    rw (told, e, k, append_assoc, cut_packets-first section pid counter) refl
+nothing_left : (pid counter : ℕ) (rest : List ℕ) → length rest ≡ 0 → packets_left (cutting_of pid counter false rest) ≡ []
+unfolding packets_with payloads
+nothing_left pid counter [] e = refl
+nothing_left pid counter (b ∷ rest) e = absurd (omega arith)
+
+-- the first packet is cut off, and the others are left
+pub left_first : (state : Cutting) (pid counter : ℕ) (start : Bool) (section front behind payload packet : List ℕ)
+    → state ≡ cutting_of pid counter start section → state.start ≡ true
+    → front ≡ take 183 section → behind ≡ drop 183 section → payload ≡ filled (0 ∷ front) → packet ≡ packet_bytes pid counter true payload
+    → packets_left state ≡ packet ∷ packets_left (cutting_of pid ((counter + 1) % 16) false behind)
+left_first state pid counter start section front behind payload packet is starts e k full told =
+    let first : start ≡ true = sym (ap (λ (s : Cutting). s.start) is) ∙ starts in
+    let some : 0 < length (0 ∷ section) = omega arith in
+    ap packets_left is
+    ∙ ap (λ (b : Bool). packets_left (cutting_of pid counter b section)) first
+    ∙ rw (told, full, e, k) (packets_with-more pid counter true (0 ∷ section) some)
+
+-- a later packet is cut off
+pub left_later : (state : Cutting) (pid counter : ℕ) (start : Bool) (rest front behind payload packet : List ℕ)
+    → state ≡ cutting_of pid counter start rest → state.start ≡ false → 0 < length state.bytes
+    → front ≡ take 184 rest → behind ≡ drop 184 rest → payload ≡ filled front → packet ≡ packet_bytes pid counter start payload
+    → packets_left state ≡ packet ∷ packets_left (cutting_of pid ((counter + 1) % 16) start behind)
+left_later state pid counter true rest front behind payload packet is later some e k full told =
+    let first : state.start ≡ true = ap (λ (s : Cutting). s.start) is in
+    absurd (true≢false (sym first ∙ later))
+left_later state pid counter false rest front behind payload packet is later some e k full told =
+    let bytes : state.bytes ≡ rest = ap (λ (s : Cutting). s.bytes) is in
+    let more : 0 < length rest = subst (λ (b : List ℕ). 0 < length b) bytes some in
+    ap packets_left is
+    ∙ rw (told, full, e, k) (packets_with-more pid counter false rest more)
+
+-- no packet is left
+pub left_none : (state : Cutting) (pid counter : ℕ) (start : Bool) (rest : List ℕ)
+    → state ≡ cutting_of pid counter start rest → start ≡ false → length rest ≡ 0 → packets_left state ≡ []
+left_none state pid counter start rest is later none =
+    ap packets_left is
+    ∙ ap (λ (b : Bool). packets_left (cutting_of pid counter b rest)) later
+    ∙ nothing_left pid counter rest none

@@ -1,5 +1,5 @@
 -- A section cut into packets: ISO/IEC 13818-1, 2.4.3.2, 2.4.3.3 and 2.4.4.
-use Rattle.std.specs.Prelude.{zero, suc, ◌≡◌, ℕ, ◌+◌, ◌-◌, ◌/◌, ◌%◌, Bool, true, false, List, [], ◌∷◌, ◌++◌, length, take, drop, replicate}
+use Rattle.std.specs.Prelude.{zero, suc, ◌≡◌, ℕ, ◌+◌, ◌-◌, ◌/◌, ◌%◌, Bool, true, false, if◌then◌else◌, List, [], ◌∷◌, ◌++◌, length, take, drop, replicate}
 use Rattle.ts_packet.specs.Packet.{packet_bytes}
 
 -- A payload of 184 bytes that carries these bytes, filled up with 0xFF.
@@ -30,6 +30,28 @@ with_pointer section = 0 ∷ section
 unfoldable pub cut_packets : List ℕ → ℕ → ℕ → List (List ℕ)
 cut_packets section pid counter =
     packets_with pid counter true (payloads (payload_count (with_pointer section)) (with_pointer section))
+
+-- A section that is cut packet by packet: the bytes that are not in a packet yet, the pointer_field before the first of
+-- them, and the counter of the packet that comes next.
+pub record Cutting : Type 0 where
+  pub pid : ℕ
+  pub counter : ℕ
+  -- whether the next packet has the start flag
+  pub start : Bool
+  pub bytes : List ℕ
+
+-- The next packet has these bytes in front, behind a pointer_field where it has the start flag.
+abbrev pub cutting_of : ℕ → ℕ → Bool → List ℕ → Cutting
+cutting_of pid counter start rest = record {
+  pid = pid;
+  counter = counter;
+  start = start;
+  bytes = if start then 0 ∷ rest else rest;
+}
+
+-- The packets that are still to come.
+abbrev pub packets_left : Cutting → List (List ℕ)
+packets_left c = packets_with c.pid c.counter c.start (payloads (payload_count c.bytes) c.bytes)
 
 -- The counter of the packet that comes after them.
 abbrev pub next_counter : List ℕ → ℕ → ℕ

@@ -5,3 +5,4 @@ pub mod Steps
 pub mod Streams
 pub mod Places
 pub mod Hearing
+pub mod TimedSection

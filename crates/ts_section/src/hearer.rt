@@ -1,7 +1,6 @@
 //! Sections by the PIDs that are listened to.
 
 ghost use Rattle.std.specs.Prelude.{◌≡◌, ◌<◌, ◌≤◌, ℕ, List, [], ◌∷◌, length, IfOk, IfSome, IfNone, MatchOption, slice_index, true, false, vec_len};
-ghost use Rattle.ts_packet.specs.Packet.{pid_of};
 
 use crate::kept::{are_same, move_kept, place_of, set_pids};
 use crate::section_out::SectionOut;
@@ -10,7 +9,7 @@ use arrayvec::ArrayVec;
 use ssu_io::NoMemory;
 use std::alloc::Global;
 use std::mem;
-use ts_packet::{Packet, Pid, read};
+use ts_packet::{Packet, Pid, pid_of, read};
 
 /// At most sixteen PIDs.
 pub type PidSet = ArrayVec<Pid, 16>;
@@ -29,7 +28,7 @@ impl Hearer {
     ghost use Rattle.ts_section.specs.Hearing.{Hears};
     ghost use Rattle.ts_section.specs.Events.{Event, Listen, Feed, heard};
 
-    /// Takes all memory that any calls need. It listens to no PID.
+    /// Takes all memory that any calls need. It listens to no PID. `NoMemory` is the one refusal.
     pub fn new(alloc: Global) -> Result<Hearer, NoMemory>
         ensures { IfOk result (λ hearer. Hears hearer []) }
     {
@@ -59,7 +58,7 @@ impl Hearer {
         ensures heard { (events : List Event) → Hears self.old events → each.new ≡ heard (Feed packet.now ∷ events) }
     {
         each.clear();
-        let Some(at) = place_of(&self.pids, pid_in(packet)) else {
+        let Some(at) = place_of(&self.pids, pid_of(packet).get()) else {
             return;
         };
         let Some(view) = read(packet) else {
@@ -70,11 +69,13 @@ impl Hearer {
     }
 }
 
-/// The PID that a packet names, whether it is usable or not.
-fn pid_in(packet: &Packet) -> u16
-    ensures { result ≡ pid_of packet.now }
+/// The set of this PID alone.
+pub fn only(pid: Pid) -> PidSet
+    ensures { result.items ≡ pid ∷ [] }
 {
-    packet[1] as u16 % 32 * 256 + packet[2] as u16
+    let mut pids = PidSet::new();
+    pids.push(pid);
+    pids
 }
 
 /// Sixteen spans without packets.

@@ -5,13 +5,15 @@ mod cutting;
 mod hearer;
 mod kept;
 mod section_out;
+mod section_packets;
 mod starts;
 mod step;
 mod stream;
-#[cfg(test)]
-mod tests;
+mod timed;
 
 pub use cutting::cut;
-pub use hearer::{Hearer, PidSet};
+pub use hearer::{Hearer, PidSet, only};
 pub use section_form::{LongForm, MakeFault, long, long_of_right, long_section, section_ends};
 pub use section_out::SectionOut;
+pub use section_packets::{SectionPackets, packet_count, packets_of};
+pub use timed::Timed;

@@ -40,7 +40,7 @@ impl Model for SectionOut {
 }
 
 impl SectionOut {
-    /// Takes all the memory that any packet's sections need.
+    /// Takes all the memory that any packet's sections need. There is no section yet. `NoMemory` is the one refusal.
     pub fn new(alloc: Global) -> Result<SectionOut, NoMemory>
         ensures { IfOk result (λ out. out ≡ []) }
     {

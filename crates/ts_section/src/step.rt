@@ -73,8 +73,8 @@ pub(crate) fn advance(
     }
 }
 
-#[tactic(auto, using(crate::proofs::Sets::texts), unfolding(crate::specs::Steps::right_of))]
 /// Adds what the next packet has of the open text, and closes a text that is whole or ends here.
+#[tactic(auto, using(crate::proofs::Sets::texts), unfolding(crate::specs::Steps::right_of))]
 fn go_on(text: &mut ArrayVec<u8, 4288>, y: &View<'_>, each: &mut SectionOut)
     requires short { length text.old.items ≤ 4097 }
     requires ranges { InRange (shown y.now) }

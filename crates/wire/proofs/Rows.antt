@@ -4,8 +4,10 @@ use Rattle.std.proofs.lemmas.Bool.{eqb-true}
 use Rattle.std.proofs.lemmas.List.{length-append, append-nil, nil_from_length, take_at, drop_at}
 use Rattle.wire.specs.Format.{Front, Whole, ◌>>=◌, SpellsEach, IsPair, items_at, items_within}
 use Rattle.wire.specs.Format as fm
-use Rattle.wire.specs.Laws.{IsFront, TakesItems, to_end_exact}
-use Rattle.wire.specs.Items.{items_of, items_next, items_spelled, shorter, each_push}
+use Rattle.wire.specs.Exact.{IsFront}
+use Rattle.wire.proofs.Laws.{TakesItems, to_end_exact}
+use Rattle.wire.specs.Items.{items_of}
+use Rattle.wire.proofs.ItemLaws.{items_next, items_spelled, shorter, each_push}
 
 abbrev some : {A : Type 0} → A → Option A
 some x = Some x

@@ -1,7 +1,8 @@
 -- Formats as values. A format has two sides: how its bytes are read, and which bytes spell a value.
 -- The combinators below give both sides at once, so that a table is written down once, field by field
 -- in the order of the wire.
-use Rattle.std.specs.Prelude.{◌≡◌, ℕ, zero, suc, ◌-◌, ◌≤◌, Bool, IsTrue, List, [], ◌∷◌, ◌++◌, length, take, drop, Option, Some, None, nat_lt, ◌==◌, if◌then◌else◌}
+use Rattle.std.specs.Prelude.{◌≡◌, ℕ, zero, suc, ◌-◌, ◌≤◌, Bool, IsTrue, List, [], ◌∷◌, ◌++◌, length, take, drop}
+use Rattle.std.specs.Prelude.{Option, Some, None, nat_lt, ◌==◌, if◌then◌else◌}
 
 -- A format that bytes may follow: `at` reads a value from the front and gives the bytes behind it,
 -- and `Spells x p` says that p is a spelling of x.

@@ -1,5 +1,5 @@
 pub mod Format
-pub mod Laws
+pub mod Exact
 pub mod Inside
 pub mod Number
 pub mod Items

@@ -3,7 +3,7 @@
 
 ghost use Rattle.std.specs.Prelude.{◌≡◌, ◌<◌, ◌^◌, IfSome};
 ghost use Rattle.wire.specs.Format.{raw};
-ghost use Rattle.wire.specs.Number.{number};
+ghost use Rattle.wire.specs.Number.{low, number};
 ghost use Rattle.wire.specs.Read.{Reads};
 
 /// The first `count` bytes.
@@ -32,6 +32,14 @@ pub fn u16_at(bytes: &[u8]) -> Option<(u16, &[u8])>
 {
     let (front, rest) = raw_at(bytes, 2)?;
     Some((u16::from_be_bytes([front[0], front[1]]), rest))
+}
+
+/// A length of 12 bits behind 4 reserved bits.
+pub fn length_at(bytes: &[u8]) -> Option<(u16, &[u8])>
+    ensures { Reads (λ x. (x.0, x.1.now)) result ((low 2 12).at bytes.now) }
+{
+    let (number, rest) = u16_at(bytes)?;
+    Some((number % 4096, rest))
 }
 
 /// A number of 24 bits, as an OUI.

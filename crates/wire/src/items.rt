@@ -3,7 +3,7 @@
 ghost use Rattle.std.specs.Prelude.{◌≡◌};
 ghost use Rattle.wire.specs.Format.{Front, exactly, items_at, to_end};
 ghost use Rattle.wire.specs.Items.{items_of};
-ghost use Rattle.wire.specs.Laws.{IsFront};
+ghost use Rattle.wire.specs.Exact.{IsFront};
 ghost use Rattle.wire.specs.Read.{Reads};
 
 use std::marker::{Model, PhantomData};

@@ -1,7 +1,7 @@
 //! Numbers onto the end of a buffer, highest byte first. After a refusal the buffer is unchanged.
 
-ghost use Rattle.std.specs.Prelude.{◌≡◌, ◌<◌, ◌^◌, ◌++◌, OnOk, OnErr};
-ghost use Rattle.wire.specs.Number.{bytes_of};
+ghost use Rattle.std.specs.Prelude.{◌≡◌, ◌<◌, ◌++◌, OnOk, OnErr};
+ghost use Rattle.wire.specs.Number.{bytes_of, length_bytes};
 
 use std::alloc::AllocError;
 
@@ -19,6 +19,15 @@ pub fn put_u16(out: &mut Vec<u8>, number: u16) -> Result<(), AllocError>
     ensures unchanged { OnErr result (out.new.items ≡ out.old.items) }
 {
     out.extend_from_slice(&number.to_be_bytes())
+}
+
+/// A length of 12 bits, below 4,096, behind 4 reserved bits, which are ones.
+pub fn put_length(out: &mut Vec<u8>, length: u16) -> Result<(), AllocError>
+    requires { length < 4096 }
+    ensures put { OnOk result (out.new.items ≡ out.old.items ++ length_bytes length) }
+    ensures unchanged { OnErr result (out.new.items ≡ out.old.items) }
+{
+    put_u16(out, 0xF000 + length)
 }
 
 /// A number of 24 bits, as an OUI.

@@ -2,15 +2,14 @@
 ghost use Rattle.std.specs.Prelude.{◌≡◌, ◌+◌, ◌≤◌, IfOk, IfSome, [], IsSome, length, option_map, true};
 ghost use Rattle.toml_fields.specs.Reading.{named, seen};
 ghost use Rattle.toml_fields.specs.Place.{place, number, optional_number};
-ghost use Rattle.head_plan.specs.Times.{moment_of};
+ghost use Rattle.ssu_time.specs.UtcField.{time_view};
 ghost use Rattle.head_plan.specs.Plans.{ArePids, IsOwnPid};
 ghost use Rattle.head_plan.specs.Schedules.{schedule_data};
 ghost use Rattle.head_plan.specs.PlanText.{service, time, origin, pids, pace, manual, schedule, schedule_in};
 
 use crate::schedule::Schedule;
-use crate::times::time_of;
 use ssu_compat::Oui;
-use ssu_time::Utc;
+use ssu_time::{Utc, civil};
 use toml_fields::{FieldName, Fields};
 use ts_packet::Pid;
 
@@ -40,9 +39,9 @@ pub(crate) fn read_optional_u16(fields: &Fields, name: &str) -> Result<Option<u1
 #[tactic(auto, unfolding(crate::specs::PlanText::time))]
 fn read_time(fields: &Fields, name: &str) -> Result<Utc, FieldName>
     requires { length fields.now.prefix.now + length name.now ≤ 32 }
-    ensures { seen moment_of result ≡ time (place fields.now) name.now }
+    ensures { seen time_view result ≡ time (place fields.now) name.now }
 {
-    match time_of(fields.text(name)?) {
+    match civil(fields.text(name)?) {
         Some(time) => Ok(time),
         None => Err(fields.bad(name)),
     }
@@ -51,7 +50,7 @@ fn read_time(fields: &Fields, name: &str) -> Result<Utc, FieldName>
 #[tactic(auto, unfolding(crate::specs::PlanText::origin))]
 pub(crate) fn read_origin(fields: &Fields) -> Result<(Oui, Utc), FieldName>
     requires { fields.now.prefix.now ≡ [] }
-    ensures { seen (λ x. (x.0, moment_of x.1)) result ≡ origin (place fields.now) }
+    ensures { seen (λ x. (x.0, time_view x.1)) result ≡ origin (place fields.now) }
 {
     let oui = fields.number("oui", 0, 16_777_215)?;
     let oui = Oui::new(oui as u32).unwrap();

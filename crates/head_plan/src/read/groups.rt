@@ -8,7 +8,7 @@ ghost use Rattle.head_plan.specs.PlanText.{versions, shape, file_of, is_counted,
 use crate::fault::PlanFault;
 use crate::files::Files;
 use crate::groups::{Groups, PlanGroup};
-use file_names::{FileName, file_name};
+use ssu_io::{FileName, file_name};
 use std::alloc::Global;
 use toml::{Table, Value};
 use toml_fields::{FieldName, Fields, item_prefix};

@@ -1,5 +1,5 @@
-use Rattle.wire.specs.Laws.{front_ends}
-use Rattle.dsmcc_msg.specs.Exact.{message_exact}
+use Rattle.wire.proofs.Laws.{front_ends}
+use Rattle.dsmcc_msg.proofs.Exact.{message_exact}
 use Rattle.dsmcc_msg.proofs.message.message_ends.Goals as goal
 
 pub returns : goal.returns

@@ -1,7 +1,8 @@
 use Rattle.std.proofs.Common.{length}
 use Rattle.flash_dev.proofs.Moments.{joined, weaker}
-use Rattle.flash_bank.specs.Bank.{LeavesBegun, LeavesCommitted, LeavesFilled, geometry_of, next_record}
-use Rattle.flash_bank.specs.Sound.{Commits}
+use Rattle.flash_bank.specs.Bank.{LeavesBegun, LeavesCommitted, LeavesFilled, current_of, geometry_of}
+use Rattle.flash_bank.specs.Record.{next_record}
+use Rattle.flash_bank.specs.Sound.{Commits, boot_of}
 use Rattle.flash_stage.specs.Leaving.{FinishLeaves, SameBank}
 use Rattle.flash_stage.proofs.LeavingLaws.{Began, Filled, banks_joined, begin_left, blank_front, commit_installs, commit_left, fill_left, on_ok}
 use Rattle.flash_stage.proofs.install.install.Goals as goal
@@ -12,12 +13,12 @@ fill-requires-clause-blank g c tells =
     blank_front c.args.bank.now c.begin.new.self (g.F.Flash.contents c.begin.new.flash) _ same c.requires.inside (c.in_ok-begin.ensures.erased_bank tells)
 
 pub returns-in_err-begin-clause-held : goal.returns-in_err-begin-clause-held
-returns-in_err-begin-clause-held g c tells = begin_left c.args.bank.now _ c.args.image.now _ _ (c.begin.ensures.held tells)
+returns-in_err-begin-clause-held g c tells = begin_left (geometry_of c.args.bank.now) _ c.args.image.now _ _ (c.begin.ensures.held tells)
 
 pub returns-in_err-begin-clause-left : goal.returns-in_err-begin-clause-left
 returns-in_err-begin-clause-left g c tells =
     let x = g.F.Flash.contents c.args.flash.now in
-    weaker g.F.Flash.moment g.F.Flash.left_since c.args.flash.now c.begin.new.flash (LeavesBegun c.args.bank.now x) _ (λ y. begin_left c.args.bank.now _ c.args.image.now x y) (c.begin.ensures.left tells)
+    weaker g.F.Flash.moment g.F.Flash.left_since c.args.flash.now c.begin.new.flash (LeavesBegun (geometry_of c.args.bank.now) x) _ (λ y. begin_left (geometry_of c.args.bank.now) _ c.args.image.now x y) (c.begin.ensures.left tells)
 
 pub returns-in_err-fill-clause-held : goal.returns-in_err-fill-clause-held
 returns-in_err-fill-clause-held g c tells =
@@ -28,6 +29,7 @@ returns-in_err-fill-clause-held g c tells =
       inside = c.requires.inside;
       same = record { geometry = c.begin.ensures.geometry; current = c.begin.ensures.current; block = c.begin.ensures.block };
       leaves = c.begin.ensures.held tells;
+      begun_fits = c.in_ok-begin.ensures.lent.fits tells;
     } in
     fill_left c.args.bank.now c.begin.new.self c.args.image.now x mid past _ _ (c.fill.ensures.held tells)
 
@@ -38,16 +40,17 @@ returns-in_err-fill-clause-left g c tells =
     let image = c.args.image.now in
     let x = F.contents c.args.flash.now in
     let mid = F.contents c.begin.new.flash in
-    let new = next_record b (length image) c.args.software c.args.group in
-    let P = FinishLeaves b new image x in
+    let new = next_record (current_of b) (length image) c.args.software c.args.group in
+    let P = FinishLeaves (geometry_of b) new image x in
     let past : Began b c.begin.new.self image x mid = record {
       fits = c.requires.lent.fits tells;
       inside = c.requires.inside;
       same = record { geometry = c.begin.ensures.geometry; current = c.begin.ensures.current; block = c.begin.ensures.block };
       leaves = c.begin.ensures.held tells;
+      begun_fits = c.in_ok-begin.ensures.lent.fits tells;
     } in
     joined F.moment F.left_since c.args.flash.now c.begin.new.flash c.fill.new.flash P
-    (weaker F.moment F.left_since c.args.flash.now c.begin.new.flash (LeavesBegun b x) P (λ y. begin_left b new image x y) (c.begin.ensures.left tells))
+    (weaker F.moment F.left_since c.args.flash.now c.begin.new.flash (LeavesBegun (geometry_of b) x) P (λ y. begin_left (geometry_of b) new image x y) (c.begin.ensures.left tells))
     (weaker F.moment F.left_since c.begin.new.flash c.fill.new.flash (LeavesFilled c.begin.new.self 0 image mid) P (λ y. fill_left b c.begin.new.self image x mid past new y) (c.fill.ensures.left tells))
 
 pub returns-clause-done : goal.returns-clause-done
@@ -65,6 +68,7 @@ returns-clause-done g c tells =
         inside = c.requires.inside;
         same = record { geometry = c.begin.ensures.geometry; current = c.begin.ensures.current; block = c.begin.ensures.block };
         leaves = c.begin.ensures.held tells;
+        begun_fits = c.in_ok-begin.ensures.lent.fits tells;
       };
       same = banks_joined b c.begin.new.self c.fill.new.self (record { geometry = c.begin.ensures.geometry; current = c.begin.ensures.current; block = c.begin.ensures.block })
           (record { geometry = c.fill.ensures.geometry; current = c.fill.ensures.current; block = c.fill.ensures.block });
@@ -72,7 +76,7 @@ returns-clause-done g c tells =
       done = c.in_ok-fill.ensures.filled tells;
       fits = c.in_ok-fill.ensures.lent.fits tells;
     } in
-    on_ok (Commits (geometry_of c.fill.new.self) (next_record c.fill.new.self (length image) c.args.software c.args.group) full y) _ c.commit.result
+    on_ok (Commits (geometry_of c.fill.new.self) (boot_of (geometry_of c.fill.new.self) full (next_record (current_of c.fill.new.self) (length image) c.args.software c.args.group)) full y) _ c.commit.result
     (λ commits. commit_installs b c.begin.new.self c.fill.new.self image x mid full c.args.software c.args.group is y (c.commit.ensures.held tells) commits) (c.commit.ensures.committed tells)
 
 pub returns-clause-held : goal.returns-clause-held
@@ -89,6 +93,7 @@ returns-clause-held g c tells =
         inside = c.requires.inside;
         same = record { geometry = c.begin.ensures.geometry; current = c.begin.ensures.current; block = c.begin.ensures.block };
         leaves = c.begin.ensures.held tells;
+        begun_fits = c.in_ok-begin.ensures.lent.fits tells;
       };
       same = banks_joined b c.begin.new.self c.fill.new.self (record { geometry = c.begin.ensures.geometry; current = c.begin.ensures.current; block = c.begin.ensures.block })
           (record { geometry = c.fill.ensures.geometry; current = c.fill.ensures.current; block = c.fill.ensures.block });
@@ -106,13 +111,14 @@ returns-clause-left g c tells =
     let x = F.contents c.args.flash.now in
     let mid = F.contents c.begin.new.flash in
     let full = F.contents c.fill.new.flash in
-    let new = next_record b (length image) c.args.software c.args.group in
-    let P = FinishLeaves b new image x in
+    let new = next_record (current_of b) (length image) c.args.software c.args.group in
+    let P = FinishLeaves (geometry_of b) new image x in
     let past : Began b c.begin.new.self image x mid = record {
       fits = c.requires.lent.fits tells;
       inside = c.requires.inside;
       same = record { geometry = c.begin.ensures.geometry; current = c.begin.ensures.current; block = c.begin.ensures.block };
       leaves = c.begin.ensures.held tells;
+      begun_fits = c.in_ok-begin.ensures.lent.fits tells;
     } in
     let is : Filled b c.begin.new.self c.fill.new.self image x mid full = record {
       past = past;
@@ -123,7 +129,7 @@ returns-clause-left g c tells =
     } in
     joined F.moment F.left_since c.args.flash.now c.fill.new.flash c.commit.new.flash P
     (joined F.moment F.left_since c.args.flash.now c.begin.new.flash c.fill.new.flash P
-    (weaker F.moment F.left_since c.args.flash.now c.begin.new.flash (LeavesBegun b x) P (λ y. begin_left b new image x y) (c.begin.ensures.left tells))
+    (weaker F.moment F.left_since c.args.flash.now c.begin.new.flash (LeavesBegun (geometry_of b) x) P (λ y. begin_left (geometry_of b) new image x y) (c.begin.ensures.left tells))
     (weaker F.moment F.left_since c.begin.new.flash c.fill.new.flash (LeavesFilled c.begin.new.self 0 image mid) P (λ y. fill_left b c.begin.new.self image x mid past new y) (c.fill.ensures.left tells)))
-    (weaker F.moment F.left_since c.fill.new.flash c.commit.new.flash (LeavesCommitted c.fill.new.self (next_record c.fill.new.self (length image) c.args.software c.args.group) full) P
+    (weaker F.moment F.left_since c.fill.new.flash c.commit.new.flash (LeavesCommitted c.fill.new.self (next_record (current_of c.fill.new.self) (length image) c.args.software c.args.group) full) P
     (λ y. commit_left b c.begin.new.self c.fill.new.self image x mid full c.args.software c.args.group is y) (c.commit.ensures.left tells))

@@ -1,6 +1,6 @@
 use Rattle.std.proofs.Common.{◌≡◌, List, [], ◌∷◌, ◌++◌, ap, ◌∙◌}
 use Rattle.std.proofs.lemmas.Result.{on_ok_weaker}
-use Rattle.timed_section.specs.TimedSection.{TimedSection}
+use Rattle.ts_section.specs.TimedSection.{TimedSection}
 use Rattle.head_carousel.specs.Signals.{programs, timed}
 use Rattle.head_carousel.proofs.SignalLaws.{three}
 use Rattle.head_carousel.proofs.programs.add_programs.Goals as goal

@@ -1,4 +1,4 @@
-use Rattle.std.proofs.Common.{◌≡◌, ℕ, ◌*◌, ◌<◌, ◌≤◌, [], length}
+use Rattle.std.proofs.Common.{◌≡◌, ℕ, ◌*◌, ◌<◌, ◌≤◌, [], map, Some, length}
 use Rattle.std.specs.List.{concat}
 use Rattle.ssu_io.specs.SinkBuffer.{MovesOn}
 use Rattle.head_mux.specs.Sent.{dues_before, section_of_turn, sent}
@@ -11,7 +11,7 @@ invariant-loop-t g l = record {
   moved : MovesOn (g.W.Sink.contents l.fn.sink) (g.W.Sink.contents l.sink) [] (concat (sent l.list l.t)) l.buffer;
   count : l.count ≡ length (sent l.list l.t);
   few : l.count ≤ 23 * l.t;
-  dues : l.dues ≡ dues_before l.list l.t;
+  dues : l.wheel.dues ≡ map (λ due. Some due) (dues_before l.list l.t);
   pids : length l.counters ≡ 8192;
   counted : Counted l.list l.t l.counters;
   bounds : (t : ℕ) → t < l.t → (section_of_turn l.list t).pid < 8192;

@@ -1,5 +1,5 @@
 use Rattle.std.proofs.Common.{◌≡◌, ℕ, false, List, Option, Some, None, refl, sym, ap, ◌∙◌}
-use Rattle.si_desc.specs.Exact.{update_ouis_exact}
+use Rattle.si_desc.proofs.Exact.{update_ouis_exact}
 use Rattle.si_desc.specs.Linkage.{OuiFields, lists, update_ouis}
 use Rattle.route_tables.specs.Said.{lists_oui as lists_in}
 use Rattle.route_tables.proofs.linkage.lists.Goals as goal

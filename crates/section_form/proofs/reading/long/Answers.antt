@@ -1,5 +1,5 @@
-use Rattle.wire.specs.Laws.{whole_found, whole_only}
-use Rattle.section_form.specs.Long.{long_form_exact}
+use Rattle.wire.proofs.Laws.{whole_found, whole_only}
+use Rattle.section_form.proofs.Exact.{long_form_exact}
 use Rattle.section_form.specs.Shown.{fields}
 use Rattle.section_form.proofs.reading.long.Goals as goal
 

@@ -1,5 +1,4 @@
-use Rattle.std.proofs.Common.{◌≡◌, ◌<◌, length, arith, sym, ◌∙◌, get_or}
-use Rattle.section_kind.specs.Kinds.{kind_of}
+use Rattle.std.proofs.Common.{◌≡◌, ◌<◌, length, arith, sym, ◌∙◌}
 use Rattle.section_kind.proofs.NoKind.{if_none, kind_at_front, kind_of_empty, of_no_kind}
 use Rattle.section_kind.proofs.by_table.kind.Goals as goal
 

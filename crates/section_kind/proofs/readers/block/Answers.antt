@@ -1,5 +1,5 @@
 use Rattle.std.proofs.Common.{refl}
-use Rattle.dsmcc_msg.specs.Exact.{ddb_exact}
+use Rattle.dsmcc_msg.proofs.Exact.{ddb_exact}
 use Rattle.dsmcc_msg.specs.View.{ddb_view}
 use Rattle.section_kind.proofs.Reading.{unread}
 use Rattle.section_kind.proofs.readers.block.Goals as goal

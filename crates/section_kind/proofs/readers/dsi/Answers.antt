@@ -1,5 +1,5 @@
 use Rattle.std.proofs.Common.{refl}
-use Rattle.dsmcc_msg.specs.Exact.{dsi_exact}
+use Rattle.dsmcc_msg.proofs.Exact.{dsi_exact}
 use Rattle.section_kind.proofs.Reading.{unread}
 use Rattle.section_kind.proofs.readers.dsi.Goals as goal
 

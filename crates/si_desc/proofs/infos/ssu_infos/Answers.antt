@@ -1,5 +1,5 @@
-use Rattle.wire.specs.Laws.{whole_found, whole_only}
-use Rattle.si_desc.specs.Exact.{update_infos_exact}
+use Rattle.wire.proofs.Laws.{whole_found, whole_only}
+use Rattle.si_desc.proofs.Exact.{update_infos_exact}
 use Rattle.si_desc.proofs.infos.ssu_infos.Goals as goal
 
 pub returns-clause-found : goal.returns-clause-found

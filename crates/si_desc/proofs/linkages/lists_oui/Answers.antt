@@ -1,5 +1,5 @@
 use Rattle.wire.specs.Items.{items_of}
-use Rattle.si_desc.specs.Exact.{update_ouis_exact}
+use Rattle.si_desc.proofs.Exact.{update_ouis_exact}
 use Rattle.si_desc.specs.Linkage.{oui_entry}
 use Rattle.si_desc.proofs.linkages.lists_oui.Goals as goal
 

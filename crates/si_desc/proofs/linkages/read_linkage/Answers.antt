@@ -1,5 +1,5 @@
-use Rattle.wire.specs.Laws.{whole_found, whole_only}
-use Rattle.si_desc.specs.Exact.{linkage_exact}
+use Rattle.wire.proofs.Laws.{whole_found, whole_only}
+use Rattle.si_desc.proofs.Exact.{linkage_exact}
 use Rattle.si_desc.proofs.linkages.read_linkage.Goals as goal
 
 pub returns-clause-found : goal.returns-clause-found

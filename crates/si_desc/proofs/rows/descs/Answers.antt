@@ -1,6 +1,6 @@
-use Rattle.wire.specs.Laws.{whole_found, whole_only}
+use Rattle.wire.proofs.Laws.{whole_found, whole_only}
 use Rattle.si_desc.specs.Descriptors.{row}
-use Rattle.si_desc.specs.Exact.{row_exact}
+use Rattle.si_desc.proofs.Exact.{row_exact}
 use Rattle.si_desc.proofs.rows.descs.Goals as goal
 
 pub returns-clause-found : goal.returns-clause-found

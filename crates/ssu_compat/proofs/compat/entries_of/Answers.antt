@@ -1,6 +1,6 @@
 use Rattle.std.proofs.Common.{◌≡◌, [], refl, arith}
 use Rattle.std.proofs.lemmas.List.{nil_from_length}
-use Rattle.wire.specs.Items.{items_spelled}
+use Rattle.wire.proofs.ItemLaws.{items_spelled}
 use Rattle.ssu_compat.specs.Compat.{entry}
 use Rattle.ssu_compat.specs.Exact.{entry_exact}
 use Rattle.ssu_compat.proofs.compat.entries_of.Goals as goal

@@ -1,5 +1,5 @@
-use Rattle.wire.specs.Laws.{front_ends}
-use Rattle.ssu_compat.specs.Exact.{compat_exact}
+use Rattle.wire.proofs.Laws.{front_ends}
+use Rattle.ssu_compat.proofs.Exact.{compat_exact}
 use Rattle.ssu_compat.proofs.ends.compat_ends.Goals as goal
 
 pub returns-clause-ends : goal.returns-clause-ends

@@ -1,10 +1,11 @@
 use Rattle.std.proofs.Common.{◌≡◌, Option, Some, None, sym, ap, ◌∙◌}
 use Rattle.std.specs.Option.{option_map, is_some}
-use Rattle.flash_stage.proofs.LeavingLaws.{leaves_same}
-use Rattle.flash_stage.specs.Leaving.{StageLeaves}
-use Rattle.dsmcc_msg.specs.declared.block.Ddb.{Ddb}
+use Rattle.dsmcc_msg.specs.declared.ddb.Ddb.{Ddb}
 use Rattle.dsmcc_msg.specs.Block.{DdbFields, ddb}
 use Rattle.dsmcc_msg.specs.View.{ddb_view}
+use Rattle.flash_bank.proofs.LeavingLemmas.{keeps_boot_same}
+use Rattle.flash_bank.specs.Bank.{geometry_of}
+use Rattle.flash_bank.specs.Leaving.{KeepsBoot}
 use Rattle.ssu_group.specs.Place.{place_of}
 use Rattle.group_image.proofs.ImageLaws.{placed_len}
 use Rattle.ssu_loader.proofs.AnsweringLaws.{both_at_ok, inside_ok}
@@ -46,15 +47,15 @@ pub returns-in_default-clause-left : goal.returns-in_default-clause-left
 returns-in_default-clause-left g c = λ tells.
     let f = g.F.Flash in
     let x = f.contents c.args.flash.now in
-    left_now f g.met.F.Flash.only_now c.args.flash.now (StageLeaves c.args.bank.now x)
-    (leaves_same c.args.bank.now x (c.requires.works.lent.fits tells).sound)
+    left_now f g.met.F.Flash.only_now c.args.flash.now (KeepsBoot (geometry_of c.args.bank.now) x)
+    (keeps_boot_same (geometry_of c.args.bank.now) x (c.requires.works.lent.fits tells).sound)
 
 pub returns-in_default-place-clause-left : goal.returns-in_default-place-clause-left
 returns-in_default-place-clause-left g c = λ tells.
     let f = g.F.Flash in
     let x = f.contents c.args.flash.now in
-    left_now f g.met.F.Flash.only_now c.args.flash.now (StageLeaves c.args.bank.now x)
-    (leaves_same c.args.bank.now x (c.requires.works.lent.fits tells).sound)
+    left_now f g.met.F.Flash.only_now c.args.flash.now (KeepsBoot (geometry_of c.args.bank.now) x)
+    (keeps_boot_same (geometry_of c.args.bank.now) x (c.requires.works.lent.fits tells).sound)
 
 pub offer-requires-clause-length : goal.offer-requires-clause-length
 offer-requires-clause-length g c = placed_len c.args.plan.now (ddb_view c.in-Some.ddb) c.in-Some-place.place (sym c.place.ensures.exact ∙ c.in-Some-place.is)

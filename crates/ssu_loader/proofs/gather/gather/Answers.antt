@@ -1,11 +1,14 @@
 use Rattle.std.proofs.Common.{ℕ, List, ◌∷◌, inl, sym, subst}
+use Rattle.flash_bank.specs.Bank.{geometry_of}
+use Rattle.flash_bank.specs.Leaving.{KeepsBoot}
 use Rattle.flash_bank.specs.declared.bank.Bank.{Bank}
 use Rattle.flash_dev.proofs.Moments.{joined, weaker}
-use Rattle.flash_stage.specs.Leaving.{StageLeaves}
 use Rattle.ssu_loader.specs.Collecting.{HasFilled, HoldsFilling}
 use Rattle.ssu_loader.specs.Settling.{SettlingLeaves}
 use Rattle.ssu_loader.proofs.AnsweringLaws.{both_if_ok, if_ok, none_one, none_two}
 use Rattle.ssu_loader.proofs.SettlingLaws.{answer_moved, settles_joined, settling_joined, settling_moved}
+use Rattle.flash_stage.proofs.LeavingLaws.{banks_joined}
+use Rattle.ssu_loader.proofs.UnlessLaws.{unless_one}
 use Rattle.ssu_loader.proofs.gather.gather.Goals as goal
 
 pub returns-clause-filled : goal.returns-clause-filled
@@ -72,7 +75,7 @@ returns-clause-left g c = λ tells window filled holds.
     let y = f.contents t.flash in
     let P : List ℕ → Type 0 = SettlingLeaves choice more bank x in
     joined f.moment f.left_since c.args.flash.now t.flash c.settle.new.flash P
-    (weaker f.moment f.left_since c.args.flash.now t.flash (StageLeaves bank x) P (λ z leaves. inl leaves) (c.in_ok-take_block.ensures.left tells))
+    (weaker f.moment f.left_since c.args.flash.now t.flash (KeepsBoot (geometry_of bank) x) P (λ z leaves. inl leaves) (c.in_ok-take_block.ensures.left tells))
     (weaker f.moment f.left_since t.flash c.settle.new.flash (SettlingLeaves choice more t.bank y) P
     (λ z leaves. settling_joined choice more bank x y z (c.requires.works.lent.fits tells) (c.in_ok-take_block.ensures.held tells)
     (settling_moved choice more bank t.bank y z c.in_ok-take_block.ensures.same_bank leaves))
@@ -86,7 +89,7 @@ returns-in_err-take_block-clause-left g c = λ tells window filled holds.
     let f = g.F.Flash in
     let bank = c.args.bank.now in
     let x = f.contents c.args.flash.now in
-    weaker f.moment f.left_since c.args.flash.now c.take_block.new.flash (StageLeaves bank x) (SettlingLeaves c.args.choice.now (c.args.section.now ∷ window) bank x)
+    weaker f.moment f.left_since c.args.flash.now c.take_block.new.flash (KeepsBoot (geometry_of bank) x) (SettlingLeaves c.args.choice.now (c.args.section.now ∷ window) bank x)
     (λ z leaves. inl leaves) (c.in_err-take_block.ensures.left tells)
 
 pub returns-clause-kept : goal.returns-clause-kept
@@ -95,5 +98,10 @@ returns-clause-kept g c = λ tells.
     let bank = c.args.bank.now in
     let x = f.contents c.args.flash.now in
     if_ok _ _ c.settle.result (λ answer. none_one answer _ _ (λ same.
-    subst (λ (flash : g.row.F.Denot). StageLeaves bank x (f.contents flash)) (sym same.2) (c.in_ok-take_block.ensures.held tells)))
+    subst (λ (flash : g.row.F.Denot). KeepsBoot (geometry_of bank) x (f.contents flash)) (sym same.2) (c.in_ok-take_block.ensures.held tells)))
     c.settle.ensures.same
+
+pub returns-clause-same_bank : goal.returns-clause-same_bank
+returns-clause-same_bank g c =
+    let t = c.take_block.new.bank in
+    unless_one c.settle.result _ _ (banks_joined c.args.bank.now t c.settle.new.bank c.in_ok-take_block.ensures.same_bank) c.settle.ensures.same_bank

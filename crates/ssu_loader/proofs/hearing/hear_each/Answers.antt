@@ -1,13 +1,17 @@
 use Rattle.std.proofs.Common.{◌≡◌, ℕ, List, ◌∷◌, take, inl, subst, ap, ◌∙◌, arith}
+use Rattle.flash_bank.specs.Bank.{geometry_of}
+use Rattle.flash_bank.specs.Leaving.{KeepsBoot}
+use Rattle.std.specs.Prelude.{Ok, Some}
 use Rattle.flash_dev.proofs.Moments.{weaker}
-use Rattle.flash_stage.specs.Leaving.{StageLeaves}
+use Rattle.flash_stage.proofs.LeavingLaws.{banks_joined}
 use Rattle.route_tables.specs.Next.{heard_on}
 use Rattle.ssu_route.specs.Queries.{after_all}
 use Rattle.ssu_route.specs.Windows.{beginnings}
 use Rattle.ssu_loader.specs.Collecting.{Collects}
 use Rattle.ssu_loader.specs.Leaving.{SectionsLeave}
 use Rattle.ssu_loader.proofs.AnsweringLaws.{if_none_at}
-use Rattle.ssu_loader.proofs.HearingLaws.{goes_on_none, goes_on_some, heard_ends, heard_leaves, heard_left, heard_more, heard_none, heard_seen, heard_untouched, take_whole}
+use Rattle.ssu_loader.proofs.HearingLaws.{goes_on_none, goes_on_some, heard_ends, heard_leaves, heard_left, heard_more, heard_none, heard_seen, heard_stops, heard_untouched, take_whole}
+use Rattle.ssu_loader.proofs.UnlessLaws.{unless_from, unless_none, unless_one}
 use Rattle.ssu_loader.proofs.hearing.hear_each.Goals as goal
 
 pub loop-k-init : goal.loop-k-init
@@ -32,7 +36,7 @@ loop-k-preserved g c =
     (λ me heard col. if_none_at _ c.in_ok-hear.field-0 c.in-None.is (c.in_ok-hear.ensures.collects me heard col))
     (λ tells me heard col. goes_on_none me (heard_on c.args.pid section ∷ heard) c.loop-k.collector.bank x y c.in_ok-hear.field-0 c.in-None.is (c.in_ok-hear.ensures.goes_on tells me heard col))
     (λ tells me heard col. c.hear.ensures.left tells me heard col) c.hear.ensures.untouched
-    (if_none_at _ c.in_ok-hear.field-0 c.in-None.is c.in_ok-hear.ensures.same_bank) c.in_ok-hear.ensures.lent c.hear.ensures.blocks c.hear.ensures.block_size c.hear.ensures.cause.later
+    (if_none_at _ c.in_ok-hear.field-0 c.in-None.is (unless_none {E = Unit {0}} (Ok c.in_ok-hear.field-0) _ c.in_ok-hear.ensures.same_bank)) c.in_ok-hear.ensures.lent c.hear.ensures.blocks c.hear.ensures.block_size c.hear.ensures.cause.later
 
 pub returns-in_err-hear-clause-held : goal.returns-in_err-hear-clause-held
 returns-in_err-hear-clause-held g c = λ tells me heard col.
@@ -95,7 +99,7 @@ returns-clause-left g c = λ tells me heard col.
     let f = g.F.Flash in
     let bank = c.args.collector.now.bank in
     let x = f.contents c.args.flash.now in
-    weaker f.moment f.left_since c.args.flash.now c.loop-k.flash (StageLeaves bank x) (SectionsLeave me (after_all c.args.pid c.args.each.now heard) bank x) (λ y is. inl is) (c.loop-k.invariant.left tells)
+    weaker f.moment f.left_since c.args.flash.now c.loop-k.flash (KeepsBoot (geometry_of bank) x) (SectionsLeave me (after_all c.args.pid c.args.each.now heard) bank x) (λ y is. inl is) (c.loop-k.invariant.left tells)
 
 pub returns-clause-same_bank : goal.returns-clause-same_bank
 returns-clause-same_bank g c = c.loop-k.invariant.bank
@@ -146,3 +150,21 @@ returns-clause-lent g c = c.loop-k.invariant.lent
 
 pub returns-clause-geometry : goal.returns-clause-geometry
 returns-clause-geometry g c = c.loop-k.invariant.bank.geometry
+
+pub returns-in_err-hear-clause-same_bank : goal.returns-in_err-hear-clause-same_bank
+returns-in_err-hear-clause-same_bank g c =
+    unless_from c.from_residual.result _
+    (banks_joined c.args.collector.now.bank c.loop-k.collector.bank c.hear.new.self.bank c.loop-k.invariant.bank c.in_err-hear.ensures.same_bank)
+
+pub returns-in-Some-clause-same_bank : goal.returns-in-Some-clause-same_bank
+returns-in-Some-clause-same_bank g c =
+    unless_one {E = Unit {0}} (Ok (Some c.in-Some.verdict)) _ _ (banks_joined c.args.collector.now.bank c.loop-k.collector.bank c.hear.new.self.bank c.loop-k.invariant.bank)
+    (rw c.in-Some.is at c.in_ok-hear.ensures.same_bank)
+
+pub returns-in-Some-clause-too_many : goal.returns-in-Some-clause-too_many
+returns-in-Some-clause-too_many g c = λ me heard col.
+    let earlier = after_all c.args.pid (take c.loop-k.k c.args.each.now) heard in
+    heard_stops g.S.Stage g.F.Flash c.args.pid c.args.each.now c.loop-k.k c.args.collector.now c.args.flash.now c.loop-k.collector c.loop-k.flash c.hear.new.self c.hear.new.flash c.get.result.now
+    c.loop-k.invariant c.requires.usable c.get.ensures.bytes me heard col c.in-Some.verdict
+    (rw c.in-Some.is at (c.in_ok-hear.ensures.seen me earlier (c.loop-k.invariant.collects me heard col)))
+    (λ many. (c.hear.ensures.too_many me earlier (c.loop-k.invariant.collects me heard col) many).1)

@@ -1,124 +1,127 @@
-use Rattle.std.proofs.Common.{◌≡◌, inl, inr, ℕ, List, subst, sym}
-use Rattle.flash_bank.specs.Bank.{current_of}
-use Rattle.std.specs.Prelude.{IfOk}
-use Rattle.flash_bank.specs.Layout.{Geometry}
+use Rattle.std.proofs.Common.{◌≡◌, ◌⊎◌, ⊎_elim, inl, inr, ℕ, List, ap, refl, subst, sym, ◌∙◌, arith}
+use Rattle.std.proofs.lemmas.Result.{err_from_is_err_and}
+use Rattle.std.specs.Prelude.{Err, IfErr, IfOk, IsErrOf, Result}
+use Rattle.flash_bank.specs.Bank.{geometry_of}
+use Rattle.flash_bank.specs.Layout.{Geometry, blocks_of}
+use Rattle.flash_bank.specs.Leaving.{KeepsBoot}
 use Rattle.flash_bank.specs.Runs.{OnlyReads}
-use Rattle.route_tables.specs.Values.{Receiver}
-use Rattle.ssu_route.specs.Windows.{beginnings}
-use Rattle.ts_input.specs.Packets.{IsOneMore, IsWithin}
-use Rattle.ssu_loader.specs.Replays.{BreaksAtPacket, ComesOf, EndsWith, ReachesNone, ReplayLeaves, blocks_of, ComesSeen, IsSeenBy, heard_in}
-use Rattle.ssu_loader.specs.Verdicts.{receiver_of}
+use Rattle.flash_bank.proofs.LeavingLemmas.{keeps_boot_same}
+use Rattle.flash_bank.specs.Seen.{flash_seen}
 use Rattle.ssu_io.proofs.BytesLemmas.{Rose_since}
+use Rattle.ssu_io.specs.Seen.{source_seen}
+use Rattle.ts_input.specs.Packets.{IsOneMore, IsWithin}
+use Rattle.ssu_loader.specs.Replaying.{Ends, Fails, IsReady, receiver_at}
+use Rattle.ssu_loader.specs.Replays.{BeginsNone, BreaksAtPacket, ComesSeen, EndsWith, ReachesNone, ReplayLeaves}
+use Rattle.ssu_loader.specs.declared.fault.LoadFault.{LoadFault}
+use Rattle.ssu_loader.specs.declared.fault.LoadFault.TheVariants.{ReadFault, TooLong}
+use Rattle.ssu_loader.specs.declared.verdict.Verdict.{Verdict}
+use Rattle.ssu_loader.specs.declared.loader.Loader.{Loader}
 use Rattle.ssu_loader.specs.Loading.{bank_of, receiver_in}
-use Rattle.ssu_loader.proofs.AnsweringLaws.{if_ok}
 use Rattle.ssu_loader.proofs.CarriedLaws.{taking_installs}
+use Rattle.ssu_loader.proofs.FreshLaws.{same_geometry}
 use Rattle.ssu_loader.proofs.LeftLaws.{left_read}
-use Rattle.ssu_loader.proofs.OpeningLaws.{keeps_itself, left_opened, of_opened}
+use Rattle.ssu_loader.proofs.OpeningLaws.{as_box, left_opened, of_former, of_opened}
+use Rattle.ssu_loader.proofs.ReplayLaws.{opening_ends, opening_fails, taking_fails, with_premise}
 use Rattle.ssu_loader.proofs.replaying.replay.Goals as goal
 
-pub returns-clause-verdict : goal.returns-clause-verdict
-returns-clause-verdict g c = λ tells before boot.
+pub returns-in_err-loader : goal.returns-in_err-loader
+returns-in_err-loader g c =
     let f = g.F.Flash in
-    let left = g.A.Source.left in
-    let t = c.take_packets in
-    of_opened g.S.Stage f c.args.me.now c.in_ok-loader.loader c.args.flash.now c.open.new.flash c.in_ok-loader.ensures.follows c.in_ok-loader.ensures.geometry_is c.in_ok-loader.ensures.reads tells before boot
-    (λ (me : Receiver) (geometry : Geometry) (x : List ℕ). IfOk t.result (ComesOf me (left c.args.air.now) (left t.new.air))) (t.ensures.verdict tells)
+    let me = c.args.me.now in
+    let old = c.args.flash.now in
+    let opened = c.open.new.flash in
+    let fault = c.in_err-loader.field-0.0 in
+    let o = c.in_err-loader.ensures in
+    let left = g.A.Source.left c.args.air.now in
+    let air = source_seen g.A.Source c.args.air.now c.args.air.now in
+    let flash = flash_seen f old opened in
+    let x = f.contents old in
+    let blocks = blocks_of f old in
+    let p = err_from_is_err_and c.from_residual.result c.from_residual.ensures.1 in
+    let is : c.from_residual.result ≡ Err fault = p.1 ∙ ap (λ (e : LoadFault). Err e) p.2 in
+    let fails : Fails me air flash fault = opening_fails me air flash {T = Loader g.row.S.Denot} (Err fault) o.geometry o.in_limits o.foreign o.sound o.worn o.next_fits o.fault o.answer (refl, o.reads) in
+    record {
+      replays = record {
+        at_any_moment = λ tells sound former boot.
+            let P : List ℕ → Type 0 = ReplayLeaves (receiver_at me flash former) left left blocks x in
+            let same : P x = inl (keeps_boot_same blocks x sound) in
+            record { left = left_read f old opened P tells o.reads same; held = subst P (sym (o.reads.same tells)) same };
+        carried = λ tells ready former boot air_well flash_well memory front rest chosen image told within first.
+            absurd (opening_ends me air flash fault o.answer fails tells ready flash_well (λ e. memory (is ∙ ap (λ (e : LoadFault). Err e) e)));
+        ends = subst (λ (r : Result Verdict LoadFault). IfOk r (Ends g.S.Stage.IN_BANK me air flash)) (sym is) tt;
+        fails = subst (λ (r : Result Verdict LoadFault). IfErr r (Fails me air flash)) (sym is) fails;
+        untouched = λ tells former boot taken rest told told_then none. o.reads;
+        refused = λ tells which. (refl, o.reads);
+        blocks = same_geometry _ _ o.reads.blocks o.reads.block_size;
+        air_later = omega arith;
+        flash_later = o.faults;
+      };
+    }
 
-pub returns-clause-ends : goal.returns-clause-ends
-returns-clause-ends g c = λ tells before boot.
+pub returns : goal.returns
+returns g c =
+    let s = g.S.Stage in
     let f = g.F.Flash in
-    let left = g.A.Source.left in
-    let t = c.take_packets in
-    of_opened g.S.Stage f c.args.me.now c.in_ok-loader.loader c.args.flash.now c.open.new.flash c.in_ok-loader.ensures.follows c.in_ok-loader.ensures.geometry_is c.in_ok-loader.ensures.reads tells before boot
-    (λ (me : Receiver) (geometry : Geometry) (x : List ℕ). IfOk t.result (EndsWith me (left c.args.air.now) (left t.new.air) geometry x (f.contents t.new.flash))) (t.ensures.ends tells)
-
-pub returns-clause-held : goal.returns-clause-held
-returns-clause-held g c = λ tells sound before boot.
-    let f = g.F.Flash in
-    let left = g.A.Source.left in
-    let t = c.take_packets in
-    of_opened g.S.Stage f c.args.me.now c.in_ok-loader.loader c.args.flash.now c.open.new.flash c.in_ok-loader.ensures.follows c.in_ok-loader.ensures.geometry_is c.in_ok-loader.ensures.reads tells before boot
-    (λ (me : Receiver) (geometry : Geometry) (x : List ℕ). ReplayLeaves me (left c.args.air.now) (left t.new.air) geometry x (f.contents t.new.flash)) (t.ensures.held tells)
-
-pub returns-clause-left : goal.returns-clause-left
-returns-clause-left g c = λ tells sound before boot.
-    let f = g.F.Flash in
-    let left = g.A.Source.left in
-    let t = c.take_packets in
-    left_opened g.S.Stage f c.args.me.now c.in_ok-loader.loader c.args.flash.now c.open.new.flash c.in_ok-loader.ensures.follows c.in_ok-loader.ensures.geometry_is c.in_ok-loader.ensures.reads
-    (left c.args.air.now) (left t.new.air) t.new.flash tells sound before boot (t.ensures.left tells)
-
-pub returns-clause-read_fault : goal.returns-clause-read_fault
-returns-clause-read_fault g c = λ tells before boot is.
-    let f = g.F.Flash in
-    let left = g.A.Source.left in
-    let t = c.take_packets in
-    of_opened g.S.Stage f c.args.me.now c.in_ok-loader.loader c.args.flash.now c.open.new.flash c.in_ok-loader.ensures.follows c.in_ok-loader.ensures.geometry_is c.in_ok-loader.ensures.reads tells before boot
-    (λ (me : Receiver) (geometry : Geometry) (x : List ℕ). ReachesNone me (left c.args.air.now) (left t.new.air) IsWithin) (λ me follows. t.ensures.read_fault tells me follows is)
-
-pub returns-clause-too_long : goal.returns-clause-too_long
-returns-clause-too_long g c = λ tells before boot is.
-    let f = g.F.Flash in
-    let left = g.A.Source.left in
-    let t = c.take_packets in
-    of_opened g.S.Stage f c.args.me.now c.in_ok-loader.loader c.args.flash.now c.open.new.flash c.in_ok-loader.ensures.follows c.in_ok-loader.ensures.geometry_is c.in_ok-loader.ensures.reads tells before boot
-    (λ (me : Receiver) (geometry : Geometry) (x : List ℕ). ReachesNone me (left c.args.air.now) (left t.new.air) IsOneMore) (λ me follows. t.ensures.too_long tells me follows is)
-
-pub returns-clause-flash_fault : goal.returns-clause-flash_fault
-returns-clause-flash_fault g c = λ tells sound before boot is.
-    let f = g.F.Flash in
-    let left = g.A.Source.left in
-    let t = c.take_packets in
-    inr
-    (of_opened g.S.Stage f c.args.me.now c.in_ok-loader.loader c.args.flash.now c.open.new.flash c.in_ok-loader.ensures.follows c.in_ok-loader.ensures.geometry_is c.in_ok-loader.ensures.reads tells before boot
-    (λ (me : Receiver) (geometry : Geometry) (x : List ℕ). BreaksAtPacket me (left c.args.air.now) (left t.new.air)) (λ me follows. t.ensures.flash_fault tells me follows is))
-
-pub returns-clause-worn_out : goal.returns-clause-worn_out
-returns-clause-worn_out g c = λ tells worn. absurd (c.in_ok-loader.ensures.next_fits tells worn)
-
-pub returns-in_err-loader-clause-left : goal.returns-in_err-loader-clause-left
-returns-in_err-loader-clause-left g c = λ tells sound before boot.
-    let f = g.F.Flash in
-    let left = g.A.Source.left in
-    let blocks = blocks_of f c.args.flash.now in
-    let x = f.contents c.args.flash.now in
-    left_read f c.args.flash.now c.open.new.flash (ReplayLeaves (receiver_of c.args.me.now blocks before.head.software) (left c.args.air.now) (left c.args.air.now) blocks x)
-    tells c.in_err-loader.ensures.reads (inl (keeps_itself blocks x sound))
-
-pub returns-clause-carried : goal.returns-clause-carried
-returns-clause-carried g c = λ tells in_limits sound not_worn before boot no_read no_flash no_memory front rest chosen image told within reached.
-    let f = g.F.Flash in
-    let left = g.A.Source.left in
-    let blocks = blocks_of f c.args.flash.now in
-    let t = c.take_packets in
-    taking_installs (receiver_of c.args.me.now blocks before.head.software) (left c.args.air.now) (left t.new.air) front rest chosen image told reached
-    blocks (f.contents c.args.flash.now) (f.contents t.new.flash) before boot within t.result
-    (returns-clause-verdict g c tells before boot) (returns-clause-ends g c tells before boot) (returns-clause-too_long g c tells before boot)
-    t.ensures.answer (λ is. no_read (t.ensures.read_cause is))
-    (λ is. no_flash (Rose_since (f.faults c.args.flash.now) (f.faults c.open.new.flash) (f.faults t.new.flash) c.in_ok-loader.ensures.faults (t.ensures.flash_cause is)))
-
-pub returns-clause-seen : goal.returns-clause-seen
-returns-clause-seen g c =
-    let left = g.A.Source.left in
+    let me = c.args.me.now in
     let loader = c.in_ok-loader.loader in
-    let blocks = blocks_of g.F.Flash c.args.flash.now in
-    let software = (current_of (bank_of loader)).software in
-    let t = c.take_packets in
-    if_ok (ComesSeen (receiver_in c.args.me.now loader) (left c.args.air.now) (left t.new.air)) (IsSeenBy c.args.me.now blocks (left c.args.air.now) (left t.new.air)) t.result
-    (λ v comes. (
-      software,
-      subst (λ (geometry : Geometry). ComesSeen (receiver_of c.args.me.now geometry software) (left c.args.air.now) (left t.new.air) v) c.in_ok-loader.ensures.geometry_is comes,
-    ))
-    (t.ensures.seen (receiver_in c.args.me.now loader) c.in_ok-loader.ensures.follows)
-
-pub returns-clause-untouched : goal.returns-clause-untouched
-returns-clause-untouched g c = λ tells before boot taken rest told told_then none.
-    let f = g.F.Flash in
-    let left = g.A.Source.left in
-    let t = c.take_packets in
-    let Reads = OnlyReads f.tells f.contents f.block_count f.block_len f.moment f.left_since c.args.flash.now in
-    let same : t.new.flash ≡ c.open.new.flash =
-    of_opened g.S.Stage f c.args.me.now c.in_ok-loader.loader c.args.flash.now c.open.new.flash c.in_ok-loader.ensures.follows c.in_ok-loader.ensures.geometry_is c.in_ok-loader.ensures.reads tells before boot
-    (λ (me : Receiver) (geometry : Geometry) (x : List ℕ). beginnings me (heard_in me taken) ≡ 0 → t.new.flash ≡ c.open.new.flash)
-    (λ me follows. t.ensures.untouched me follows taken rest told told_then) none in
-    subst Reads (sym same) c.in_ok-loader.ensures.reads
+    let old = c.args.flash.now in
+    let opened = c.open.new.flash in
+    let new = c.take_packets.new.flash in
+    let t = c.take_packets.ensures in
+    let result = c.take_packets.result in
+    let o = c.in_ok-loader.ensures in
+    let left = g.A.Source.left c.args.air.now in
+    let left_after = g.A.Source.left c.take_packets.new.air in
+    let air = source_seen g.A.Source c.args.air.now c.take_packets.new.air in
+    let flash = flash_seen f old new in
+    let x = f.contents old in
+    let y = f.contents new in
+    let blocks = blocks_of f old in
+    let ready : IsReady flash = record { limits = o.in_limits; sound = o.sound; fresh = o.next_fits } in
+    let you = receiver_in me loader in
+    let later = Rose_since (f.faults old) (f.faults opened) (f.faults new) o.faults in
+    let Reads = OnlyReads f.tells f.contents f.block_count f.block_len f.moment f.left_since old in
+    let kept : f.tells → IsErrOf result ReadFault ⊎ IsErrOf result TooLong → KeepsBoot blocks x y =
+    λ tells which. of_opened s f me loader old opened new o.follows o.geometry_is o.reads tells (λ (g : Geometry) (z : List ℕ). KeepsBoot g z y) (t.kept tells which) in
+    record {
+      replays = record {
+        at_any_moment = λ tells sound former boot. record {
+          left = left_opened s f me loader old opened new o.follows o.geometry_is o.reads left left_after tells sound former boot (t.left tells);
+          held = of_former s f me loader old opened new o.follows o.geometry_is o.reads tells former boot (λ you g z. ReplayLeaves you left left_after g z y) (t.held tells);
+        };
+        carried = λ tells can former boot air_well flash_well memory front rest chosen image told within reached.
+            taking_installs s.IN_BANK (receiver_at me flash former) left left_after front rest chosen image told reached blocks x y former boot within result
+            (of_former s f me loader old opened new o.follows o.geometry_is o.reads tells former boot
+            (λ you g z. IfOk result (EndsWith s.IN_BANK you left left_after g z y)) (t.ends tells))
+            (λ is. of_former s f me loader old opened new o.follows o.geometry_is o.reads tells former boot
+            (λ you g z. ReachesNone you left left_after IsOneMore) (λ you follows. t.too_long you follows is))
+            t.answer (λ is. air_well (t.read_cause is)) (λ is. flash_well (later (t.flash_cause is)));
+        ends = with_premise f.tells (ComesSeen you left left_after) (EndsWith s.IN_BANK you left left_after (geometry_of (bank_of loader)) (f.contents opened) y) (Ends s.IN_BANK me air flash) result
+            (λ v seen ends. record {
+              ready = ready;
+              comes = as_box s f me loader old opened new o.follows o.geometry_is o.reads (λ own. ComesSeen own left left_after v × (f.tells → EndsWith s.IN_BANK own left left_after blocks x y v))
+                  (seen, λ tells. of_opened s f me loader old opened new o.follows o.geometry_is o.reads tells (λ (g : Geometry) (z : List ℕ). EndsWith s.IN_BANK you left left_after g z y v) (ends tells));
+            })
+            (t.seen you o.follows) (λ tells. t.ends tells you o.follows);
+        fails = taking_fails me air flash result t.answer ready t.read_cause (λ is. later (t.flash_cause is))
+            (λ is. record {
+              ready = ready;
+              reaches = as_box s f me loader old opened new o.follows o.geometry_is o.reads (λ own. ReachesNone own left left_after IsWithin) (t.read_fault you o.follows is);
+              keeps = λ tells. kept tells (inl is);
+            })
+            (λ is. record {
+              ready = ready;
+              reaches = as_box s f me loader old opened new o.follows o.geometry_is o.reads (λ own. ReachesNone own left left_after IsOneMore) (t.too_long you o.follows is);
+              keeps = λ tells. kept tells (inr is);
+            })
+            (λ is. inr (ready, as_box s f me loader old opened new o.follows o.geometry_is o.reads (λ own. BreaksAtPacket own left left_after) (t.flash_fault you o.follows is)));
+        untouched = λ tells former boot taken rest told told_then none.
+            let same : new ≡ opened = of_former s f me loader old opened new o.follows o.geometry_is o.reads tells former boot
+            (λ you g z. BeginsNone you taken → new ≡ opened) (λ you follows. t.untouched you follows taken rest told told_then) none in
+            subst Reads (sym same) o.reads;
+        refused = λ tells. ⊎_elim (λ foreign. absurd (foreign (o.sound tells))) (λ worn. absurd (o.next_fits tells worn));
+        blocks = same_geometry _ _ (t.blocks ∙ o.reads.blocks) (t.block_size ∙ o.reads.block_size);
+        air_later = t.air_later;
+        flash_later = omega (arith, o.faults, t.flash_later);
+      };
+    }

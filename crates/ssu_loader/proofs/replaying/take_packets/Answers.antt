@@ -1,12 +1,11 @@
-use Rattle.std.proofs.Common.{◌≡◌, List, ◌∷◌, inl, length, arith}
+use Rattle.std.proofs.Common.{◌≡◌, List, inl, length, arith}
 use Rattle.flash_bank.specs.Bank.{geometry_of}
 use Rattle.ts_section.specs.Events.{Heard}
-use Rattle.ssu_route.specs.Queries.{heard_by}
 use Rattle.ssu_loader.specs.Decisions.{IsOpen}
 use Rattle.ssu_loader.specs.Loading.{bank_of}
 use Rattle.ts_input.specs.Packets.{IsWithin, IsOneMore}
 use Rattle.ssu_loader.specs.Replays.{HearsIn}
-use Rattle.ssu_loader.proofs.TakingLaws.{ComesLast, at_most, at_one_more, at_packet, at_rest, bytes_of, comes_at, comes_last, ends_at, ends_last, kept, knows_packets, leaves_at, left_at, left_kept, newest_packets, open_now, packets_broken, packets_of, is_open, seen_at, seen_last, so_far_more, so_far_none, takes_at, takes_last, KeepsWhereNone, untouched_at, untouched_in, untouched_more}
+use Rattle.ssu_loader.proofs.TakingLaws.{ComesLast, EndsLast, at_most, at_one_more, at_packet, at_rest, ends_at, ends_last, kept, knows_packets, leaves_at, left_at, left_kept, newest_packets, open_now, seen_at, seen_last, so_far_more, so_far_none, stored_now, KeepsWhereNone, untouched_at, untouched_in, untouched_more}
 use Rattle.ssu_loader.proofs.replaying.take_packets.Goals as goal
 
 pub loop-taken-init : goal.loop-taken-init
@@ -15,17 +14,6 @@ loop-taken-init g c = record {
   air_later = omega arith;
   flash_later = omega arith;
 }
-
-pub returns-in-End-clause-verdict : goal.returns-in-End-clause-verdict
-returns-in-End-clause-verdict g c = λ tells me follows.
-    let left = g.A.Source.left in
-    let l = c.loop-taken in
-    let follows_now = l.invariant.so_far.follows me follows in
-    let ps = newest_packets l.invariant.so_far.taken in
-    let hears : HearsIn me (left c.args.air.now) (left c.next_packet.new.air) IsWithin (ComesLast me c.end.result) =
-    at_rest g.S.Stage g.F.Flash l._taken c.args.loader.now l.loader c.args.flash.now l.flash (left c.args.air.now) (left l.air) l.invariant.so_far me (left c.next_packet.new.air) (ComesLast me c.end.result) c.in-End.ensures.rest c.loop-taken-test.true
-    (c.end.ensures.verdict me ps (knows_packets g.S.Stage g.F.Flash me ps l.loader l.flash follows_now), open_now g.S.Stage g.F.Flash l._taken c.args.loader.now l.loader c.args.flash.now l.flash (left c.args.air.now) (left l.air) l.invariant.so_far me follows) in
-    comes_last me c.end.result (left c.args.air.now) (left c.next_packet.new.air) hears c.in-End.ensures.end
 
 pub returns-in-End-clause-seen : goal.returns-in-End-clause-seen
 returns-in-End-clause-seen g c = λ me follows.
@@ -40,16 +28,22 @@ returns-in-End-clause-seen g c = λ me follows.
 
 pub returns-in-End-clause-ends : goal.returns-in-End-clause-ends
 returns-in-End-clause-ends g c = λ tells me follows.
+    let s = g.S.Stage in
+    let f = g.F.Flash in
     let left = g.A.Source.left in
     let l = c.loop-taken in
-    let follows_now = l.invariant.so_far.follows me follows in
-    let ps = newest_packets l.invariant.so_far.taken in
-    let hears : HearsIn me (left c.args.air.now) (left c.next_packet.new.air) IsWithin (ComesLast me c.end.result) =
-    at_rest g.S.Stage g.F.Flash l._taken c.args.loader.now l.loader c.args.flash.now l.flash (left c.args.air.now) (left l.air) l.invariant.so_far me (left c.next_packet.new.air) (ComesLast me c.end.result) c.in-End.ensures.rest c.loop-taken-test.true
-    (c.end.ensures.verdict me ps (knows_packets g.S.Stage g.F.Flash me ps l.loader l.flash follows_now), open_now g.S.Stage g.F.Flash l._taken c.args.loader.now l.loader c.args.flash.now l.flash (left c.args.air.now) (left l.air) l.invariant.so_far me follows) in
-    let f = g.F.Flash in
-    ends_last me c.end.result (left c.args.air.now) (left c.next_packet.new.air) (geometry_of (bank_of c.args.loader.now)) (f.contents c.args.flash.now) (f.contents l.flash) hears
-    (kept g.S.Stage g.F.Flash l._taken c.args.loader.now l.loader c.args.flash.now l.flash (left c.args.air.now) (left l.air) l.invariant.so_far tells)
+    let first = c.args.loader.now in
+    let blocks = geometry_of (bank_of first) in
+    let y = f.contents l.flash in
+    let now = EndsLast s.IN_BANK blocks y me c.end.result in
+    ends_last s.IN_BANK me c.end.result (left c.args.air.now) (left c.next_packet.new.air) blocks (f.contents c.args.flash.now) y
+    (at_rest s f l._taken first l.loader c.args.flash.now l.flash (left c.args.air.now) (left l.air) l.invariant.so_far me (left c.next_packet.new.air) now c.in-End.ensures.rest c.loop-taken-test.true (
+      c.end.ensures.verdict me (newest_packets l.invariant.so_far.taken) (knows_packets s f me (newest_packets l.invariant.so_far.taken) l.loader l.flash (l.invariant.so_far.follows me follows)),
+      open_now s f l._taken first l.loader c.args.flash.now l.flash (left c.args.air.now) (left l.air) l.invariant.so_far me follows,
+      λ in_bank. stored_now s f l._taken first l.loader c.args.flash.now l.flash (left c.args.air.now) (left l.air) l.invariant.so_far g.met.S.Stage.in_bank in_bank tells me follows,
+    ))
+    c.in-End.ensures.end
+    (kept s f l._taken first l.loader c.args.flash.now l.flash (left c.args.air.now) (left l.air) l.invariant.so_far tells)
 
 pub returns-in-End-clause-held : goal.returns-in-End-clause-held
 returns-in-End-clause-held g c = λ tells me follows.
@@ -62,18 +56,6 @@ returns-in-End-clause-left g c = λ tells me follows.
     let left = g.A.Source.left in
     let l = c.loop-taken in
     left_kept g.S.Stage g.F.Flash l._taken c.args.loader.now l.loader c.args.flash.now l.flash (left c.args.air.now) (left l.air) l.invariant.so_far me (left c.next_packet.new.air) tells
-
-pub returns-in-End-clause-taken : goal.returns-in-End-clause-taken
-returns-in-End-clause-taken g c =
-    let left = g.A.Source.left in
-    let l = c.loop-taken in
-    let anything : List Heard → Type 0 = λ heard. Unit {0} in
-    let usable = l.invariant.so_far.usable in
-    takes_last usable.me (heard_by usable.me usable.ps) c.end.result (left c.args.air.now) (left c.next_packet.new.air)
-    (c.end.ensures.verdict usable.me usable.ps (knows_packets g.S.Stage g.F.Flash usable.me usable.ps l.loader l.flash usable.follows))
-    (is_open g.S.Stage g.F.Flash usable.me usable.ps l.loader l.flash usable.follows)
-    (bytes_of (at_rest g.S.Stage g.F.Flash l._taken c.args.loader.now l.loader c.args.flash.now l.flash (left c.args.air.now) (left l.air) l.invariant.so_far l.invariant.so_far.usable.me (left c.next_packet.new.air) anything c.in-End.ensures.rest c.loop-taken-test.true tt))
-    c.in-End.ensures.end
 
 pub returns-in-Failed-clause-held : goal.returns-in-Failed-clause-held
 returns-in-Failed-clause-held g c = λ tells me follows.
@@ -88,7 +70,7 @@ returns-in-Failed-clause-left g c = λ tells me follows.
     left_kept g.S.Stage g.F.Flash l._taken c.args.loader.now l.loader c.args.flash.now l.flash (left c.args.air.now) (left l.air) l.invariant.so_far me (left c.next_packet.new.air) tells
 
 pub returns-in-Failed-clause-read_fault : goal.returns-in-Failed-clause-read_fault
-returns-in-Failed-clause-read_fault g c = λ tells me follows is.
+returns-in-Failed-clause-read_fault g c = λ me follows is.
     let left = g.A.Source.left in
     let l = c.loop-taken in
     at_rest g.S.Stage g.F.Flash l._taken c.args.loader.now l.loader c.args.flash.now l.flash (left c.args.air.now) (left l.air) l.invariant.so_far me (left c.next_packet.new.air) (IsOpen me) c.in-Failed.ensures.failed c.loop-taken-test.true (open_now g.S.Stage g.F.Flash l._taken c.args.loader.now l.loader c.args.flash.now l.flash (left c.args.air.now) (left l.air) l.invariant.so_far me follows)
@@ -99,22 +81,6 @@ returns-in-Failed-clause-kept g c = λ tells which.
     let l = c.loop-taken in
     kept g.S.Stage g.F.Flash l._taken c.args.loader.now l.loader c.args.flash.now l.flash (left c.args.air.now) (left l.air) l.invariant.so_far tells
 
-pub returns-in-Failed-clause-taken : goal.returns-in-Failed-clause-taken
-returns-in-Failed-clause-taken g c =
-    let left = g.A.Source.left in
-    let l = c.loop-taken in
-    let anything : List Heard → Type 0 = λ heard. Unit {0} in
-    bytes_of (at_rest g.S.Stage g.F.Flash l._taken c.args.loader.now l.loader c.args.flash.now l.flash (left c.args.air.now) (left l.air) l.invariant.so_far l.invariant.so_far.usable.me (left c.next_packet.new.air) anything c.in-Failed.ensures.failed c.loop-taken-test.true tt)
-
-pub returns-in-Ok-Some-clause-verdict : goal.returns-in-Ok-Some-clause-verdict
-returns-in-Ok-Some-clause-verdict g c = λ tells me follows.
-    let left = g.A.Source.left in
-    let l = c.loop-taken in
-    let one : length c.next_packet.new.packet ≡ 188 = omega arith in
-    let follows_now = l.invariant.so_far.follows me follows in
-    let ps = newest_packets l.invariant.so_far.taken in
-    comes_at g.S.Stage g.F.Flash l._taken c.args.loader.now l.loader c.args.flash.now l.flash (left c.args.air.now) (left l.air) l.invariant.so_far me (left c.next_packet.new.air) c.next_packet.new.packet c.in-Packet.ensures.packet one c.loop-taken-test.true tells follows c.in-Ok-Some.verdict (g.F.Flash.contents c.packet.new.flash) (rw c.in-Ok-Some.field-0-is at (c.in-Ok-Some.ensures.goes_on tells me ps follows_now))
-
 pub returns-in-Ok-Some-clause-ends : goal.returns-in-Ok-Some-clause-ends
 returns-in-Ok-Some-clause-ends g c = λ tells me follows.
     let left = g.A.Source.left in
@@ -122,7 +88,10 @@ returns-in-Ok-Some-clause-ends g c = λ tells me follows.
     let one : length c.next_packet.new.packet ≡ 188 = omega arith in
     let follows_now = l.invariant.so_far.follows me follows in
     let ps = newest_packets l.invariant.so_far.taken in
-    ends_at g.S.Stage g.F.Flash l._taken c.args.loader.now l.loader c.args.flash.now l.flash (left c.args.air.now) (left l.air) l.invariant.so_far me (left c.next_packet.new.air) c.next_packet.new.packet c.in-Packet.ensures.packet one c.loop-taken-test.true tells follows c.in-Ok-Some.verdict (g.F.Flash.contents c.packet.new.flash) (rw c.in-Ok-Some.field-0-is at (c.in-Ok-Some.ensures.goes_on tells me ps follows_now))
+    let is = c.in-Ok-Some.field-0-is in
+    ends_at g.S.Stage g.F.Flash l._taken c.args.loader.now l.loader c.args.flash.now l.flash (left c.args.air.now) (left l.air) l.invariant.so_far me (left c.next_packet.new.air) c.next_packet.new.packet c.in-Packet.ensures.packet one c.loop-taken-test.true tells follows
+    g.met.S.Stage.in_bank c.in-Ok-Some.verdict c.packet.new.flash (rw is at (c.in-Ok-Some.ensures.goes_on tells me ps follows_now)) (rw is at (c.in-Ok-Some.ensures.too_many me ps follows_now))
+    c.in-Ok-Some.ensures.blocks c.in-Ok-Some.ensures.block_size
 
 pub returns-in-Ok-Some-clause-held : goal.returns-in-Ok-Some-clause-held
 returns-in-Ok-Some-clause-held g c = λ tells me follows.
@@ -141,17 +110,6 @@ returns-in-Ok-Some-clause-left g c = λ tells me follows.
     let follows_now = l.invariant.so_far.follows me follows in
     let ps = newest_packets l.invariant.so_far.taken in
     left_at g.S.Stage g.F.Flash l._taken c.args.loader.now l.loader c.args.flash.now l.flash (left c.args.air.now) (left l.air) l.invariant.so_far me (left c.next_packet.new.air) c.next_packet.new.packet c.in-Packet.ensures.packet one c.loop-taken-test.true tells follows c.packet.new.flash (c.in-Ok-Some.ensures.left tells me ps follows_now)
-
-pub returns-in-Ok-Some-clause-taken : goal.returns-in-Ok-Some-clause-taken
-returns-in-Ok-Some-clause-taken g c =
-    let left = g.A.Source.left in
-    let l = c.loop-taken in
-    let one : length c.next_packet.new.packet ≡ 188 = omega arith in
-    let anything : List Heard → Type 0 = λ heard. Unit {0} in
-    let usable = l.invariant.so_far.usable in
-    takes_at usable.me (heard_by usable.me (c.next_packet.new.packet ∷ usable.ps)) c.in-Ok-Some.verdict (left c.args.air.now) (left c.next_packet.new.air)
-    (rw c.in-Ok-Some.field-0-is at (c.in-Ok-Some.ensures.seen usable.me usable.ps usable.follows))
-    (packets_of (at_packet g.S.Stage g.F.Flash l._taken c.args.loader.now l.loader c.args.flash.now l.flash (left c.args.air.now) (left l.air) l.invariant.so_far l.invariant.so_far.usable.me (left c.next_packet.new.air) c.next_packet.new.packet anything anything c.in-Packet.ensures.packet one c.loop-taken-test.true tt tt))
 
 pub returns-in-Ok-Some-clause-seen : goal.returns-in-Ok-Some-clause-seen
 returns-in-Ok-Some-clause-seen g c = λ me follows.
@@ -180,22 +138,13 @@ returns-in-Err-clause-left g c = λ tells me follows.
     left_at g.S.Stage g.F.Flash l._taken c.args.loader.now l.loader c.args.flash.now l.flash (left c.args.air.now) (left l.air) l.invariant.so_far me (left c.next_packet.new.air) c.next_packet.new.packet c.in-Packet.ensures.packet one c.loop-taken-test.true tells follows c.packet.new.flash (c.in-Err.ensures.left tells me ps follows_now)
 
 pub returns-in-Err-clause-flash_fault : goal.returns-in-Err-clause-flash_fault
-returns-in-Err-clause-flash_fault g c = λ tells me follows is.
+returns-in-Err-clause-flash_fault g c = λ me follows is.
     let left = g.A.Source.left in
     let l = c.loop-taken in
     let one : length c.next_packet.new.packet ≡ 188 = omega arith in
     let anything : List Heard → Type 0 = λ heard. Unit {0} in
     at_packet g.S.Stage g.F.Flash l._taken c.args.loader.now l.loader c.args.flash.now l.flash (left c.args.air.now) (left l.air) l.invariant.so_far me (left c.next_packet.new.air) c.next_packet.new.packet anything (IsOpen me) c.in-Packet.ensures.packet one c.loop-taken-test.true tt
     (open_now g.S.Stage g.F.Flash l._taken c.args.loader.now l.loader c.args.flash.now l.flash (left c.args.air.now) (left l.air) l.invariant.so_far me follows)
-
-pub returns-in-Err-clause-taken : goal.returns-in-Err-clause-taken
-returns-in-Err-clause-taken g c =
-    let left = g.A.Source.left in
-    let l = c.loop-taken in
-    let one : length c.next_packet.new.packet ≡ 188 = omega arith in
-    let anything : List Heard → Type 0 = λ heard. Unit {0} in
-    packets_broken (left c.args.air.now) (left c.next_packet.new.air)
-    (packets_of (at_packet g.S.Stage g.F.Flash l._taken c.args.loader.now l.loader c.args.flash.now l.flash (left c.args.air.now) (left l.air) l.invariant.so_far l.invariant.so_far.usable.me (left c.next_packet.new.air) c.next_packet.new.packet anything anything c.in-Packet.ensures.packet one c.loop-taken-test.true tt tt))
 
 pub loop-taken-preserved : goal.loop-taken-preserved
 loop-taken-preserved g c =
@@ -218,18 +167,6 @@ loop-taken-preserved g c =
       flash_later = omega (arith, l.invariant.flash_later, c.in-Ok-None.ensures.cause.later);
     }
 
-pub returns-in-Nothing-clause-verdict : goal.returns-in-Nothing-clause-verdict
-returns-in-Nothing-clause-verdict g c = λ tells me follows.
-    let left = g.A.Source.left in
-    let l = c.loop-taken in
-    let most : l._taken ≡ 16777216 = omega arith in
-    let follows_now = l.invariant.so_far.follows me follows in
-    let ps = newest_packets l.invariant.so_far.taken in
-    let hears : HearsIn me (left c.args.air.now) (left c.behind_last.new.air) IsWithin (ComesLast me c.end-in-Nothing.result) =
-    at_most g.S.Stage g.F.Flash l._taken c.args.loader.now l.loader c.args.flash.now l.flash (left c.args.air.now) (left l.air) l.invariant.so_far me (left c.behind_last.new.air) (ComesLast me c.end-in-Nothing.result) c.in-Nothing.ensures.none most
-    (c.end-in-Nothing.ensures.verdict me ps (knows_packets g.S.Stage g.F.Flash me ps l.loader l.flash follows_now), open_now g.S.Stage g.F.Flash l._taken c.args.loader.now l.loader c.args.flash.now l.flash (left c.args.air.now) (left l.air) l.invariant.so_far me follows) in
-    comes_last me c.end-in-Nothing.result (left c.args.air.now) (left c.behind_last.new.air) hears c.in-Nothing.ensures.end
-
 pub returns-in-Nothing-clause-seen : goal.returns-in-Nothing-clause-seen
 returns-in-Nothing-clause-seen g c = λ me follows.
     let left = g.A.Source.left in
@@ -244,17 +181,24 @@ returns-in-Nothing-clause-seen g c = λ me follows.
 
 pub returns-in-Nothing-clause-ends : goal.returns-in-Nothing-clause-ends
 returns-in-Nothing-clause-ends g c = λ tells me follows.
+    let s = g.S.Stage in
+    let f = g.F.Flash in
     let left = g.A.Source.left in
     let l = c.loop-taken in
     let most : l._taken ≡ 16777216 = omega arith in
-    let follows_now = l.invariant.so_far.follows me follows in
-    let ps = newest_packets l.invariant.so_far.taken in
-    let hears : HearsIn me (left c.args.air.now) (left c.behind_last.new.air) IsWithin (ComesLast me c.end-in-Nothing.result) =
-    at_most g.S.Stage g.F.Flash l._taken c.args.loader.now l.loader c.args.flash.now l.flash (left c.args.air.now) (left l.air) l.invariant.so_far me (left c.behind_last.new.air) (ComesLast me c.end-in-Nothing.result) c.in-Nothing.ensures.none most
-    (c.end-in-Nothing.ensures.verdict me ps (knows_packets g.S.Stage g.F.Flash me ps l.loader l.flash follows_now), open_now g.S.Stage g.F.Flash l._taken c.args.loader.now l.loader c.args.flash.now l.flash (left c.args.air.now) (left l.air) l.invariant.so_far me follows) in
-    let f = g.F.Flash in
-    ends_last me c.end-in-Nothing.result (left c.args.air.now) (left c.behind_last.new.air) (geometry_of (bank_of c.args.loader.now)) (f.contents c.args.flash.now) (f.contents l.flash) hears
-    (kept g.S.Stage g.F.Flash l._taken c.args.loader.now l.loader c.args.flash.now l.flash (left c.args.air.now) (left l.air) l.invariant.so_far tells)
+    let first = c.args.loader.now in
+    let blocks = geometry_of (bank_of first) in
+    let y = f.contents l.flash in
+    let v = c.end-in-Nothing.result in
+    let now = EndsLast s.IN_BANK blocks y me v in
+    ends_last s.IN_BANK me v (left c.args.air.now) (left c.behind_last.new.air) blocks (f.contents c.args.flash.now) y
+    (at_most s f l._taken first l.loader c.args.flash.now l.flash (left c.args.air.now) (left l.air) l.invariant.so_far me (left c.behind_last.new.air) now c.in-Nothing.ensures.none most (
+      c.end-in-Nothing.ensures.verdict me (newest_packets l.invariant.so_far.taken) (knows_packets s f me (newest_packets l.invariant.so_far.taken) l.loader l.flash (l.invariant.so_far.follows me follows)),
+      open_now s f l._taken first l.loader c.args.flash.now l.flash (left c.args.air.now) (left l.air) l.invariant.so_far me follows,
+      λ in_bank. stored_now s f l._taken first l.loader c.args.flash.now l.flash (left c.args.air.now) (left l.air) l.invariant.so_far g.met.S.Stage.in_bank in_bank tells me follows,
+    ))
+    c.in-Nothing.ensures.end
+    (kept s f l._taken first l.loader c.args.flash.now l.flash (left c.args.air.now) (left l.air) l.invariant.so_far tells)
 
 pub returns-in-Nothing-clause-held : goal.returns-in-Nothing-clause-held
 returns-in-Nothing-clause-held g c = λ tells me follows.
@@ -267,19 +211,6 @@ returns-in-Nothing-clause-left g c = λ tells me follows.
     let left = g.A.Source.left in
     let l = c.loop-taken in
     left_kept g.S.Stage g.F.Flash l._taken c.args.loader.now l.loader c.args.flash.now l.flash (left c.args.air.now) (left l.air) l.invariant.so_far me (left c.behind_last.new.air) tells
-
-pub returns-in-Nothing-clause-taken : goal.returns-in-Nothing-clause-taken
-returns-in-Nothing-clause-taken g c =
-    let left = g.A.Source.left in
-    let l = c.loop-taken in
-    let most : l._taken ≡ 16777216 = omega arith in
-    let anything : List Heard → Type 0 = λ heard. Unit {0} in
-    let usable = l.invariant.so_far.usable in
-    takes_last usable.me (heard_by usable.me usable.ps) c.end-in-Nothing.result (left c.args.air.now) (left c.behind_last.new.air)
-    (c.end-in-Nothing.ensures.verdict usable.me usable.ps (knows_packets g.S.Stage g.F.Flash usable.me usable.ps l.loader l.flash usable.follows))
-    (is_open g.S.Stage g.F.Flash usable.me usable.ps l.loader l.flash usable.follows)
-    (bytes_of (at_most g.S.Stage g.F.Flash l._taken c.args.loader.now l.loader c.args.flash.now l.flash (left c.args.air.now) (left l.air) l.invariant.so_far l.invariant.so_far.usable.me (left c.behind_last.new.air) anything c.in-Nothing.ensures.none most tt))
-    c.in-Nothing.ensures.end
 
 pub returns-in-More-clause-held : goal.returns-in-More-clause-held
 returns-in-More-clause-held g c = λ tells me follows.
@@ -294,7 +225,7 @@ returns-in-More-clause-left g c = λ tells me follows.
     left_kept g.S.Stage g.F.Flash l._taken c.args.loader.now l.loader c.args.flash.now l.flash (left c.args.air.now) (left l.air) l.invariant.so_far me (left c.behind_last.new.air) tells
 
 pub returns-in-More-clause-too_long : goal.returns-in-More-clause-too_long
-returns-in-More-clause-too_long g c = λ tells me follows is.
+returns-in-More-clause-too_long g c = λ me follows is.
     let left = g.A.Source.left in
     let l = c.loop-taken in
     let most : l._taken ≡ 16777216 = omega arith in
@@ -305,14 +236,6 @@ returns-in-More-clause-kept g c = λ tells which.
     let left = g.A.Source.left in
     let l = c.loop-taken in
     kept g.S.Stage g.F.Flash l._taken c.args.loader.now l.loader c.args.flash.now l.flash (left c.args.air.now) (left l.air) l.invariant.so_far tells
-
-pub returns-in-More-clause-taken : goal.returns-in-More-clause-taken
-returns-in-More-clause-taken g c =
-    let left = g.A.Source.left in
-    let l = c.loop-taken in
-    let most : l._taken ≡ 16777216 = omega arith in
-    let anything : List Heard → Type 0 = λ heard. Unit {0} in
-    bytes_of (at_one_more g.S.Stage g.F.Flash l._taken c.args.loader.now l.loader c.args.flash.now l.flash (left c.args.air.now) (left l.air) l.invariant.so_far l.invariant.so_far.usable.me (left c.behind_last.new.air) anything c.in-More.ensures.more most tt)
 
 pub returns-in-Failed-behind_last-clause-held : goal.returns-in-Failed-behind_last-clause-held
 returns-in-Failed-behind_last-clause-held g c = λ tells me follows.
@@ -327,7 +250,7 @@ returns-in-Failed-behind_last-clause-left g c = λ tells me follows.
     left_kept g.S.Stage g.F.Flash l._taken c.args.loader.now l.loader c.args.flash.now l.flash (left c.args.air.now) (left l.air) l.invariant.so_far me (left c.behind_last.new.air) tells
 
 pub returns-in-Failed-behind_last-clause-read_fault : goal.returns-in-Failed-behind_last-clause-read_fault
-returns-in-Failed-behind_last-clause-read_fault g c = λ tells me follows is.
+returns-in-Failed-behind_last-clause-read_fault g c = λ me follows is.
     let left = g.A.Source.left in
     let l = c.loop-taken in
     let most : l._taken ≡ 16777216 = omega arith in
@@ -338,14 +261,6 @@ returns-in-Failed-behind_last-clause-kept g c = λ tells which.
     let left = g.A.Source.left in
     let l = c.loop-taken in
     kept g.S.Stage g.F.Flash l._taken c.args.loader.now l.loader c.args.flash.now l.flash (left c.args.air.now) (left l.air) l.invariant.so_far tells
-
-pub returns-in-Failed-behind_last-clause-taken : goal.returns-in-Failed-behind_last-clause-taken
-returns-in-Failed-behind_last-clause-taken g c =
-    let left = g.A.Source.left in
-    let l = c.loop-taken in
-    let most : l._taken ≡ 16777216 = omega arith in
-    let anything : List Heard → Type 0 = λ heard. Unit {0} in
-    bytes_of (at_most g.S.Stage g.F.Flash l._taken c.args.loader.now l.loader c.args.flash.now l.flash (left c.args.air.now) (left l.air) l.invariant.so_far l.invariant.so_far.usable.me (left c.behind_last.new.air) anything c.in-Failed-behind_last.ensures.failed most tt)
 
 pub returns-in-End-clause-untouched : goal.returns-in-End-clause-untouched
 returns-in-End-clause-untouched g c = λ me follows.

@@ -1,5 +1,6 @@
 use Rattle.std.proofs.Common.{ℕ, List}
-use Rattle.flash_bank.specs.Bank.{next_record}
+use Rattle.flash_bank.specs.Bank.{current_of, geometry_of}
+use Rattle.flash_bank.specs.Record.{next_record}
 use Rattle.flash_dev.proofs.Moments.{weaker}
 use Rattle.flash_stage.specs.Leaving.{FinishLeaves}
 use Rattle.flash_stage.specs.Outline.{group_text}
@@ -29,7 +30,7 @@ returns-in_err-finish-clause-left g c = λ tells window filled holds right.
     let text = s.bytes_at c.args.stage.now bank x in
     let has = s.has c.args.stage.now in
     let outline = s.plan_of c.args.stage.now in
-    let P : List ℕ → Type 0 = FinishLeaves bank (next_record bank outline.total choice.software choice.group) (group_text text outline) x in
+    let P : List ℕ → Type 0 = FinishLeaves (geometry_of bank) (next_record (current_of bank) outline.total choice.software choice.group) (group_text text outline) x in
     weaker f.moment f.left_since c.args.flash.now c.finish.new.flash P (SettlingLeaves choice window bank x)
     (λ y. finish_settles choice window bank x y outline (group_text text outline)
     c.requires.works.planned (none_missing choice.plan window has filled c.requires.whole)
@@ -72,7 +73,7 @@ returns-clause-left g c = λ tells window filled holds right.
     let text = s.bytes_at c.args.stage.now bank x in
     let has = s.has c.args.stage.now in
     let outline = s.plan_of c.args.stage.now in
-    let P : List ℕ → Type 0 = FinishLeaves bank (next_record bank outline.total choice.software choice.group) (group_text text outline) x in
+    let P : List ℕ → Type 0 = FinishLeaves (geometry_of bank) (next_record (current_of bank) outline.total choice.software choice.group) (group_text text outline) x in
     weaker f.moment f.left_since c.args.flash.now c.finish.new.flash P (SettlingLeaves choice window bank x)
     (λ y. finish_settles choice window bank x y outline (group_text text outline)
     c.requires.works.planned (none_missing choice.plan window has filled c.requires.whole)

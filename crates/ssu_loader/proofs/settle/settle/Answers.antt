@@ -1,15 +1,18 @@
 use Rattle.std.proofs.Common.{◌≡◌, ℕ, List, inl, sym, ap, subst, ◌∙◌, arith}
+use Rattle.flash_bank.proofs.LeavingLemmas.{keeps_boot_same}
+use Rattle.flash_bank.specs.Bank.{geometry_of}
+use Rattle.flash_bank.specs.Leaving.{KeepsBoot}
 use Rattle.std.specs.Prelude.{IfOk, IfSome}
 use Rattle.flash_dev.proofs.Moments.{joined, weaker}
-use Rattle.flash_stage.specs.Leaving.{StageLeaves}
 use Rattle.flash_stage.specs.Outline.{Outline}
-use Rattle.flash_stage.proofs.LeavingLaws.{leaves_same}
+use Rattle.flash_stage.proofs.LeavingLaws.{banks_joined}
 use Rattle.ssu_group.specs.Map.{missing_below}
 use Rattle.ssu_loader.specs.Settling.{Settles, SettlingLeaves}
 use Rattle.ssu_loader.proofs.AnsweringLaws.{at_none, at_some, if_ok, some_one}
 use Rattle.ssu_loader.proofs.LeftLaws.{left_now, left_read}
 use Rattle.ssu_loader.proofs.SearchLaws.{filled_stays, holds_stays}
 use Rattle.ssu_loader.proofs.SettlingLaws.{answer_moved, has_wrong, missing_is, none_missing, none_wrong, settling_moved}
+use Rattle.ssu_loader.proofs.UnlessLaws.{unless_one}
 use Rattle.ssu_loader.proofs.settle.settle.Goals as goal
 
 pub returns-then-missing-gt0-clause-missing : goal.returns-then-missing-gt0-clause-missing
@@ -26,14 +29,14 @@ returns-then-missing-gt0-clause-left g c = λ tells window filled holds.
     let f = g.F.Flash in
     let x = f.contents c.args.flash.now in
     left_now f g.met.F.Flash.only_now c.args.flash.now (SettlingLeaves c.args.choice.now window c.args.bank.now x)
-    (inl (leaves_same c.args.bank.now x (c.requires.works.lent.fits tells).sound))
+    (inl (keeps_boot_same (geometry_of c.args.bank.now) x (c.requires.works.lent.fits tells).sound))
 
 pub returns-in_err-wrong-clause-left : goal.returns-in_err-wrong-clause-left
 returns-in_err-wrong-clause-left g c = λ tells window filled holds.
     let f = g.F.Flash in
     let x = f.contents c.args.flash.now in
     left_read f c.args.flash.now c.first_wrong.new.flash (SettlingLeaves c.args.choice.now window c.args.bank.now x) tells c.first_wrong.ensures.stays.reads
-    (inl (leaves_same c.args.bank.now x (c.requires.works.lent.fits tells).sound))
+    (inl (keeps_boot_same (geometry_of c.args.bank.now) x (c.requires.works.lent.fits tells).sound))
 
 pub returns-in-Some-clause-settled : goal.returns-in-Some-clause-settled
 returns-in-Some-clause-settled g c = λ tells window filled holds.
@@ -47,7 +50,7 @@ returns-in-Some-clause-settled g c = λ tells window filled holds.
     let whole : missing_below has plan.places ≡ 0 = omega (arith, count, c.if-missing-gt0.false) in
     let same : f.contents c.first_wrong.new.flash ≡ x = c.first_wrong.ensures.stays.reads.same tells in (
       has_wrong choice window found.0 c.in-Some.wrong (none_missing plan window has filled whole) found.1 found.2,
-      subst (StageLeaves c.args.bank.now x) (sym same) (leaves_same c.args.bank.now x (c.requires.works.lent.fits tells).sound),
+      subst (KeepsBoot (geometry_of c.args.bank.now) x) (sym same) (keeps_boot_same (geometry_of c.args.bank.now) x (c.requires.works.lent.fits tells).sound),
     )
 
 pub returns-in-Some-clause-left : goal.returns-in-Some-clause-left
@@ -55,7 +58,7 @@ returns-in-Some-clause-left g c = λ tells window filled holds.
     let f = g.F.Flash in
     let x = f.contents c.args.flash.now in
     left_read f c.args.flash.now c.first_wrong.new.flash (SettlingLeaves c.args.choice.now window c.args.bank.now x) tells c.first_wrong.ensures.stays.reads
-    (inl (leaves_same c.args.bank.now x (c.requires.works.lent.fits tells).sound))
+    (inl (keeps_boot_same (geometry_of c.args.bank.now) x (c.requires.works.lent.fits tells).sound))
 
 pub returns-in-None-clause-settled : goal.returns-in-None-clause-settled
 returns-in-None-clause-settled g c = λ tells window filled holds.
@@ -105,7 +108,7 @@ returns-in-None-clause-left g c = λ tells window filled holds.
     let P : List ℕ → Type 0 = SettlingLeaves choice window bank x in
     let Q : List ℕ → List ℕ → Type 0 = λ from y. SettlingLeaves choice window w.bank from y in
     joined f.moment f.left_since c.args.flash.now w.flash c.install.new.flash P
-    (left_read f c.args.flash.now w.flash P tells stays.reads (inl (leaves_same bank x (c.requires.works.lent.fits tells).sound)))
+    (left_read f c.args.flash.now w.flash P tells stays.reads (inl (keeps_boot_same (geometry_of bank) x (c.requires.works.lent.fits tells).sound)))
     (weaker f.moment f.left_since w.flash c.install.new.flash (Q (f.contents w.flash)) P
     (λ y leaves. settling_moved choice window bank w.bank x y stays.same_bank (subst (λ (from : List ℕ). Q from y) (stays.reads.same tells) leaves))
     (c.install.ensures.left tells window filled' holds' right))
@@ -116,7 +119,7 @@ returns-in-Some-clause-whole g c = λ window filled.
     let has = g.S.Stage.has c.args.stage.now in
     let count : missing_below has plan.places ≡ c.missing.result = ap (λ (o : Outline). missing_below has o.places) (sym c.requires.works.planned) ∙ sym c.missing.ensures in
     let whole : missing_below has plan.places ≡ 0 = omega (arith, count, c.if-missing-gt0.false) in
-    (tt, none_missing plan window has filled whole)
+    (rw c.in-Some.is at c.in_ok-wrong.ensures.differs, none_missing plan window has filled whole)
 
 pub returns-in-None-clause-whole : goal.returns-in-None-clause-whole
 returns-in-None-clause-whole g c = λ window filled.
@@ -125,3 +128,8 @@ returns-in-None-clause-whole g c = λ window filled.
     let count : missing_below has plan.places ≡ c.missing.result = ap (λ (o : Outline). missing_below has o.places) (sym c.requires.works.planned) ∙ sym c.missing.ensures in
     let whole : missing_below has plan.places ≡ 0 = omega (arith, count, c.if-missing-gt0.false) in
     if_ok _ _ c.install.result (λ answer. some_one answer _ _ (λ verdict of_group. (of_group, none_missing plan window has filled whole))) c.install.ensures.group
+
+pub returns-in-None-clause-same_bank : goal.returns-in-None-clause-same_bank
+returns-in-None-clause-same_bank g c =
+    let w = c.first_wrong.new.bank in
+    unless_one c.install.result _ _ (banks_joined c.args.bank.now w c.install.new.bank c.first_wrong.ensures.stays.same_bank) c.install.ensures.same_bank

@@ -1,5 +1,5 @@
 use Rattle.dsmcc_msg.specs.Control.{dsi}
-use Rattle.dsmcc_msg.specs.Exact.{dsi_exact}
+use Rattle.dsmcc_msg.proofs.Exact.{dsi_exact}
 use Rattle.ssu_route.proofs.Accepting.{read_is}
 use Rattle.ssu_route.proofs.accept.dsi_of.Goals as goal
 

@@ -1,7 +1,7 @@
 use Rattle.std.proofs.Common.{◌≡◌, ◌≤◌, length, Option, Some, None}
 use Rattle.std.specs.Prelude.{IfSome}
 use Rattle.dsmcc_msg.specs.Control.{DiiFields, dii}
-use Rattle.dsmcc_msg.specs.Exact.{dii_exact}
+use Rattle.dsmcc_msg.proofs.Exact.{dii_exact}
 use Rattle.ssu_route.specs.Offers.{dii_of}
 use Rattle.ssu_route.proofs.Accepting.{read_is}
 use Rattle.ssu_route.proofs.Messages.{message_read, message_short}

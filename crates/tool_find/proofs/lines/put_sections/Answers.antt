@@ -1,6 +1,6 @@
 use Rattle.std.proofs.Common.{arith, map}
 use Rattle.std.proofs.lemmas.Result.{err_from_is_err_and}
-use Rattle.packet_text.proofs.Pieces.{pieces_step, pieces_failed}
+use Rattle.ts_input.proofs.Pieces.{pieces_step, pieces_failed}
 use Rattle.tool_find.specs.Lines.{section_line}
 use Rattle.tool_find.proofs.Pieces.{line_of}
 use Rattle.tool_find.proofs.lines.put_sections.Goals as goal

@@ -1,6 +1,6 @@
 use Rattle.std.proofs.Common.{arith}
 use Rattle.std.proofs.lemmas.Result.{err_from_is_err_and}
-use Rattle.packet_text.proofs.Pieces.{pieces_step, pieces_failed}
+use Rattle.ts_input.proofs.Pieces.{pieces_step, pieces_failed}
 use Rattle.tool_hear.proofs.hearing.put_sections.Goals as goal
 
 pub returns-in_err-put-clause-failed : goal.returns-in_err-put-clause-failed

@@ -6,8 +6,8 @@ use Rattle.tool_load.specs.Wrong.{is_wrong}
 use Rattle.tool_load.proofs.VerdictLaws.{modules_inside, incomplete_is, loaded_is, bad_is}
 use Rattle.tool_load.proofs.deciding.verdict_of_blocks.Goals as goal
 
-pub returns-then-missing-gt0 : goal.returns-then-missing-gt0
-returns-then-missing-gt0 c = λ sections is.
+pub returns-then-missing-gt0-clause-verdict : goal.returns-then-missing-gt0-clause-verdict
+returns-then-missing-gt0-clause-verdict c = λ sections is.
     incomplete_is c.args.blocks.now sections c.chosen.result c.missing-missing.result is c.chosen.ensures c.missing-missing.ensures (omega arith)
 
 pub first_wrong-requires : goal.first_wrong-requires
@@ -18,16 +18,16 @@ first_wrong-requires c = λ k d below.
     (modules_inside blocks.plan k d) below in
     omega (arith, inside, blocks.is_for.total)
 
-pub returns-in-None : goal.returns-in-None
-returns-in-None c = λ sections is.
+pub returns-in-None-clause-verdict : goal.returns-in-None-clause-verdict
+returns-in-None-clause-verdict c = λ sections is.
     let blocks = c.args.blocks.now in
     let none : missing_in blocks.image ≡ 0 = sym c.missing-missing.ensures ∙ omega arith in
     let right : find (is_wrong (image_of blocks.image)) blocks.plan.modules.items ≡ None =
     subst (λ (ms : List ModulePlan). find (is_wrong (image_of blocks.image)) ms ≡ None) c.as_slice.ensures.value c.in-None.ensures in
     loaded_is blocks sections c.chosen-in-None.result is c.chosen-in-None.ensures none right
 
-pub returns-in-Some : goal.returns-in-Some
-returns-in-Some c = λ sections is.
+pub returns-in-Some-clause-verdict : goal.returns-in-Some-clause-verdict
+returns-in-Some-clause-verdict c = λ sections is.
     let blocks = c.args.blocks.now in
     let none : missing_in blocks.image ≡ 0 = sym c.missing-missing.ensures ∙ omega arith in
     let found = c.in-Some.ensures in

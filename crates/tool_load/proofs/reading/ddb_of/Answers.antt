@@ -1,5 +1,5 @@
 use Rattle.dsmcc_msg.specs.Block.{ddb}
-use Rattle.dsmcc_msg.specs.Exact.{ddb_exact}
+use Rattle.dsmcc_msg.proofs.Exact.{ddb_exact}
 use Rattle.dsmcc_msg.specs.View.{ddb_view}
 use Rattle.dsmcc_msg.proofs.Reading.{read_exactly}
 use Rattle.tool_load.proofs.reading.ddb_of.Goals as goal

@@ -1,5 +1,5 @@
 use Rattle.dsmcc_msg.specs.Control.{dii}
-use Rattle.dsmcc_msg.specs.Exact.{dii_exact}
+use Rattle.dsmcc_msg.proofs.Exact.{dii_exact}
 use Rattle.dsmcc_msg.proofs.Reading.{reads_it}
 use Rattle.tool_load.proofs.reading.dii_of.Goals as goal
 

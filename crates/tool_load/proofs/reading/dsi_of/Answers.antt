@@ -1,5 +1,5 @@
 use Rattle.dsmcc_msg.specs.Control.{dsi}
-use Rattle.dsmcc_msg.specs.Exact.{dsi_exact}
+use Rattle.dsmcc_msg.proofs.Exact.{dsi_exact}
 use Rattle.dsmcc_msg.proofs.Reading.{reads_it}
 use Rattle.tool_load.proofs.reading.dsi_of.Goals as goal
 

@@ -1,313 +1,148 @@
-use Rattle.std.proofs.Common.{◌∙◌, ap, refl}
+use Rattle.std.proofs.Common.{ap, refl, ◌∙◌, arith}
 use Rattle.flash_bank.proofs.ReadsLemmas.{reads_none}
-use Rattle.ssu_io.specs.Bytes.{Gains, GainsPrefix}
-use Rattle.ssu_loader.specs.Decisions.{Whole}
-use Rattle.ssu_loader.specs.declared.verdict.Verdict.{Verdict}
+use Rattle.flash_bank.specs.Seen.{flash_seen}
+use Rattle.ssu_io.specs.Seen.{shelf_seen, sink_seen, source_seen}
+use Rattle.ssu_loader.specs.Replaying.{receiver_at}
+use Rattle.ssu_loader.specs.Replays.{BeginsNone, CarriesFirst}
 use Rattle.tool_replay.specs.Answers.{status_of}
-use Rattle.tool_replay.specs.Replaying.{Tells}
-use Rattle.tool_replay.proofs.CarriedLaws.{begins_for_box, box_is_had, for_box, not_memory}
-use Rattle.tool_replay.proofs.KeptLaws.{leaves_same, holds_for, leaves_for}
-use Rattle.tool_replay.proofs.ToldLaws.{is_err, none_unopened, told_bad_module, told_incomplete, told_installed, told_nothing, told_unsettled}
+use Rattle.tool_replay.proofs.CarriedLaws.{box_is_had, for_box, not_memory}
+use Rattle.tool_replay.proofs.KeptLaws.{leaves_for, leaves_same}
+use Rattle.tool_replay.proofs.ToldLaws.{has_failed, no_box_failed, no_box_is_absent, no_fault, none_absent, reads_fault, reads_verdict, reads_written, says_fault, says_no_box, says_verdict}
 use Rattle.tool_replay.proofs.command.replay.Goals as goal
 
--- ---- what is left
+pub returns-in-Err : goal.returns-in-Err
+returns-in-Err g c =
+    let f = g.F.Flash in
+    let same = c.args.flash.now in
+    let shelf = shelf_seen g.H.Shelf c.args.shelf.now c.read_box.new.shelf in
+    let air = source_seen g.A.Source c.args.air.now c.args.air.now in
+    let flash = flash_seen f same same in
+    let out = sink_seen g.T.Sink c.args.out.now c.args.out.now in
+    let b = c.in-Err.ensures in
+    let s = c.in-Err.status in
+    let only_now = g.met.F.Flash.only_now same in
+    let reads = reads_none f.tells f.contents f.block_count f.block_len f.moment f.left_since same only_now in
+    record {
+      replays = record {
+        at_any_moment = λ tells sound former boot. leaves_same f shelf air same former only_now sound;
+        carried = λ tells ready former boot box_file holds well memory front rest chosen image left within first.
+            absurd (box_is_had _ shelf.held box_file s holds b.refusals b.absent b.refused b.fault_cause well.shelf_well memory);
+        answers = says_no_box g.S.Stage.IN_BANK shelf air flash out _ s b.refusals b.absent b.absent_name b.refused (refl, (refl, refl)) (refl, reads);
+        files = record { absent_cause = b.absent_cause; fault_cause = b.fault_cause; held = b.unchanged; faults_later = b.faults; absences_later = b.absences };
+        no_box = no_box_is_absent _ shelf.held s b.refusals b.absent b.absent_name;
+        complete = no_box_failed g.S.Stage.IN_BANK shelf air flash out s b.refusals b.fault_cause;
+        untouched = λ tells former boot box_file holds taken rest left left_after none. reads;
+        refused = λ tells which. (refl, reads);
+        blocks = refl;
+        air_later = omega arith;
+        flash_later = omega arith;
+        out_later = omega arith;
+      };
+    }
 
-pub returns-in-Err-clause-left : goal.returns-in-Err-clause-left
-returns-in-Err-clause-left g c = λ tells sound before boots.
-    let F = g.F.Flash in
-    leaves_same _ _ _ _ _ _ F.moment F.left_since c.args.flash.now (g.met.F.Flash.only_now c.args.flash.now) sound
+pub returns-in-Err-replay : goal.returns-in-Err-replay
+returns-in-Err-replay g c =
+    let f = g.F.Flash in
+    let file = c.in-Ok.file in
+    let told = c.in-Ok.ensures.found in
+    let old = c.args.flash.now in
+    let new = c.replay.new.flash in
+    let shelf = shelf_seen g.H.Shelf c.args.shelf.now c.read_box.new.shelf in
+    let air = source_seen g.A.Source c.args.air.now c.replay.new.air in
+    let flash = flash_seen f old new in
+    let out = sink_seen g.T.Sink c.args.out.now c.args.out.now in
+    let b = c.read_box.ensures in
+    let r = c.replay.ensures.replays in
+    let fault = c.in-Err-replay.fault in
+    let status = c.status_of_fault.ensures in
+    let fails = c.in-Err-replay.ensures.replays.fails in
+    record {
+      replays = record {
+        at_any_moment = λ tells sound former boot. leaves_for f shelf air old new former file told (r.at_any_moment tells sound former boot);
+        carried = λ tells ready former boot box_file holds well memory front rest chosen image left within first.
+            absurd (c.in-Err-replay.ensures.replays.carried tells ready former boot well.air_well well.flash_well (not_memory fault (λ is. memory (status ∙ is)))
+            front rest chosen image left within (for_box shelf.held box_file file (λ own. CarriesFirst (receiver_at own flash former) front chosen image) holds told first));
+        answers = rw status (says_fault g.S.Stage.IN_BANK shelf air flash out fault (record { box_file = file; told = told; fails = fails; unprinted = refl }));
+        files = rw status (reads_fault g.S.Stage.IN_BANK shelf air flash out b.unchanged b.faults b.absences fault);
+        no_box = λ none. absurd (none_absent shelf.held file told none);
+        complete = rw status (has_failed g.S.Stage.IN_BANK shelf air flash out file fault fails);
+        untouched = λ tells former boot box_file holds taken rest left left_after none.
+            r.untouched tells former boot taken rest left left_after (for_box shelf.held box_file file (λ own. BeginsNone (receiver_at own flash former) taken) holds told none);
+        refused = r.refused;
+        blocks = r.blocks;
+        air_later = r.air_later;
+        flash_later = r.flash_later;
+        out_later = omega arith;
+      };
+    }
 
-pub returns-in-Err-Geometry-clause-left : goal.returns-in-Err-Geometry-clause-left
-returns-in-Err-Geometry-clause-left g c = λ tells sound before boots.
-    let F = g.F.Flash in
-    leaves_for _ _ _ _ _ _ F.moment F.left_since c.args.flash.now c.replay.new.flash c.in-Ok.file c.in-Ok.ensures.found (c.replay.ensures.left tells sound before boots)
+pub returns-in-Ok-put_line : goal.returns-in-Ok-put_line
+returns-in-Ok-put_line g c =
+    let f = g.F.Flash in
+    let file = c.in-Ok.file in
+    let told = c.in-Ok.ensures.found in
+    let old = c.args.flash.now in
+    let new = c.replay.new.flash in
+    let shelf = shelf_seen g.H.Shelf c.args.shelf.now c.read_box.new.shelf in
+    let air = source_seen g.A.Source c.args.air.now c.replay.new.air in
+    let flash = flash_seen f old new in
+    let out = sink_seen g.T.Sink c.args.out.now c.put_line.new.out in
+    let b = c.read_box.ensures in
+    let r = c.replay.ensures.replays in
+    let v = c.in-Ok-replay.verdict in
+    let status = c.status_of.ensures in
+    let ends = c.in-Ok-replay.ensures.replays.ends in
+    record {
+      replays = record {
+        at_any_moment = λ tells sound former boot. leaves_for f shelf air old new former file told (r.at_any_moment tells sound former boot);
+        carried = λ tells ready former boot box_file holds well memory front rest chosen image left within first.
+            let installed = c.in-Ok-replay.ensures.replays.carried tells ready former boot well.air_well well.flash_well (λ is. cc)
+            front rest chosen image left within (for_box shelf.held box_file file (λ own. CarriesFirst (receiver_at own flash former) front chosen image) holds told first) in
+            (status ∙ ap status_of installed.0, installed.1);
+        answers = rw status (says_verdict g.S.Stage.IN_BANK shelf air flash out v (record { box_file = file; told = told; ends = ends; prints = c.in-Ok-put_line.ensures.whole }));
+        files = rw status (reads_verdict g.S.Stage.IN_BANK shelf air flash out b.unchanged b.faults b.absences v);
+        no_box = λ none. absurd (none_absent shelf.held file told none);
+        complete = λ well. rw status (no_fault g.S.Stage.IN_BANK shelf air flash out v);
+        untouched = λ tells former boot box_file holds taken rest left left_after none.
+            r.untouched tells former boot taken rest left left_after (for_box shelf.held box_file file (λ own. BeginsNone (receiver_at own flash former) taken) holds told none);
+        refused = r.refused;
+        blocks = r.blocks;
+        air_later = r.air_later;
+        flash_later = r.flash_later;
+        out_later = c.put_line.ensures.cause.later;
+      };
+    }
 
-pub returns-in-Err-FlashFault-clause-left : goal.returns-in-Err-FlashFault-clause-left
-returns-in-Err-FlashFault-clause-left g c = λ tells sound before boots.
-    let F = g.F.Flash in
-    leaves_for _ _ _ _ _ _ F.moment F.left_since c.args.flash.now c.replay.new.flash c.in-Ok.file c.in-Ok.ensures.found (c.replay.ensures.left tells sound before boots)
-
-pub returns-in-Err-Foreign-clause-left : goal.returns-in-Err-Foreign-clause-left
-returns-in-Err-Foreign-clause-left g c = λ tells sound before boots.
-    let F = g.F.Flash in
-    leaves_for _ _ _ _ _ _ F.moment F.left_since c.args.flash.now c.replay.new.flash c.in-Ok.file c.in-Ok.ensures.found (c.replay.ensures.left tells sound before boots)
-
-pub returns-in-Err-Worn-clause-left : goal.returns-in-Err-Worn-clause-left
-returns-in-Err-Worn-clause-left g c = λ tells sound before boots.
-    let F = g.F.Flash in
-    leaves_for _ _ _ _ _ _ F.moment F.left_since c.args.flash.now c.replay.new.flash c.in-Ok.file c.in-Ok.ensures.found (c.replay.ensures.left tells sound before boots)
-
-pub returns-in-Err-Memory-clause-left : goal.returns-in-Err-Memory-clause-left
-returns-in-Err-Memory-clause-left g c = λ tells sound before boots.
-    let F = g.F.Flash in
-    leaves_for _ _ _ _ _ _ F.moment F.left_since c.args.flash.now c.replay.new.flash c.in-Ok.file c.in-Ok.ensures.found (c.replay.ensures.left tells sound before boots)
-
-pub returns-in-Err-ReadFault-clause-left : goal.returns-in-Err-ReadFault-clause-left
-returns-in-Err-ReadFault-clause-left g c = λ tells sound before boots.
-    let F = g.F.Flash in
-    leaves_for _ _ _ _ _ _ F.moment F.left_since c.args.flash.now c.replay.new.flash c.in-Ok.file c.in-Ok.ensures.found (c.replay.ensures.left tells sound before boots)
-
-pub returns-in-Err-TooLong-clause-left : goal.returns-in-Err-TooLong-clause-left
-returns-in-Err-TooLong-clause-left g c = λ tells sound before boots.
-    let F = g.F.Flash in
-    leaves_for _ _ _ _ _ _ F.moment F.left_since c.args.flash.now c.replay.new.flash c.in-Ok.file c.in-Ok.ensures.found (c.replay.ensures.left tells sound before boots)
-
-pub returns-in-Ok-put_line-clause-left : goal.returns-in-Ok-put_line-clause-left
-returns-in-Ok-put_line-clause-left g c = λ tells sound before boots.
-    let F = g.F.Flash in
-    leaves_for _ _ _ _ _ _ F.moment F.left_since c.args.flash.now c.replay.new.flash c.in-Ok.file c.in-Ok.ensures.found (c.replay.ensures.left tells sound before boots)
-
-pub returns-in-Err-put_line-clause-left : goal.returns-in-Err-put_line-clause-left
-returns-in-Err-put_line-clause-left g c = λ tells sound before boots.
-    let F = g.F.Flash in
-    leaves_for _ _ _ _ _ _ F.moment F.left_since c.args.flash.now c.replay.new.flash c.in-Ok.file c.in-Ok.ensures.found (c.replay.ensures.left tells sound before boots)
-
--- ---- what is held
-
-pub returns-in-Err-FlashFault-clause-held : goal.returns-in-Err-FlashFault-clause-held
-returns-in-Err-FlashFault-clause-held g c = λ tells sound before boots.
-    holds_for _ _ _ _ _ _ c.in-Ok.file _ c.in-Ok.ensures.found (c.replay.ensures.held tells sound before boots)
-
-pub returns-in-Ok-put_line-clause-held : goal.returns-in-Ok-put_line-clause-held
-returns-in-Ok-put_line-clause-held g c = λ tells sound before boots.
-    holds_for _ _ _ _ _ _ c.in-Ok.file _ c.in-Ok.ensures.found (c.replay.ensures.held tells sound before boots)
-
-pub returns-in-Err-put_line-clause-held : goal.returns-in-Err-put_line-clause-held
-returns-in-Err-put_line-clause-held g c = λ tells sound before boots.
-    holds_for _ _ _ _ _ _ c.in-Ok.file _ c.in-Ok.ensures.found (c.replay.ensures.held tells sound before boots)
-
--- ---- without a verdict
-
-pub returns-in-Err-FlashFault-clause-flash_fault : goal.returns-in-Err-FlashFault-clause-flash_fault
-returns-in-Err-FlashFault-clause-flash_fault g c = record {
-  box_file = c.in-Ok.file;
-  told = c.in-Ok.ensures.found;
-  fact = λ tells before boots. λ sound. c.in-Err-FlashFault.ensures.flash_fault tells sound before boots (is_err _ _ c.in-Err-FlashFault.field-0-is);
-}
-
-pub returns-in-Err-ReadFault-clause-read_fault : goal.returns-in-Err-ReadFault-clause-read_fault
-returns-in-Err-ReadFault-clause-read_fault g c = record {
-  box_file = c.in-Ok.file;
-  told = c.in-Ok.ensures.found;
-  fact = λ tells before boots. c.in-Err-ReadFault.ensures.read_fault tells before boots (is_err _ _ c.in-Err-ReadFault.field-0-is);
-}
-
-pub returns-in-Err-TooLong-clause-too_long : goal.returns-in-Err-TooLong-clause-too_long
-returns-in-Err-TooLong-clause-too_long g c = record {
-  box_file = c.in-Ok.file;
-  told = c.in-Ok.ensures.found;
-  fact = λ tells before boots. c.in-Err-TooLong.ensures.too_long tells before boots (is_err _ _ c.in-Err-TooLong.field-0-is);
-}
-
--- ---- a verdict
-
-pub returns-in-Ok-put_line-clause-installed : goal.returns-in-Ok-put_line-clause-installed
-returns-in-Ok-put_line-clause-installed g c =
-    let F = g.F.Flash in
-    let x = c.args.flash.now in
-    let P : Verdict → Type 0 = λ v. Tells Gains F.tells (g.H.Shelf.held c.args.shelf.now) (record { blocks = F.block_count x; block_len = F.block_len x }) (F.contents x) (F.contents c.replay.new.flash)
-    (g.A.Source.left c.args.air.now) (g.A.Source.left c.replay.new.air) (g.T.Sink.contents c.args.out.now) (g.T.Sink.contents c.put_line.new.out) v in
-    let told : P c.in-Ok-replay.verdict = record {
-      box_file = c.in-Ok.file;
-      told = c.in-Ok.ensures.found;
-      comes = c.in-Ok-replay.ensures.verdict;
-      ends = c.in-Ok-replay.ensures.ends;
-      takes = c.in-Ok-replay.ensures.taken;
-      seen = c.in-Ok-replay.ensures.seen;
-      prints = c.in-Ok-put_line.ensures.whole;
-    } in
-    rw c.status_of.ensures (told_installed P c.in-Ok-replay.verdict told)
-
-pub returns-in-Ok-put_line-clause-nothing : goal.returns-in-Ok-put_line-clause-nothing
-returns-in-Ok-put_line-clause-nothing g c =
-    let F = g.F.Flash in
-    let x = c.args.flash.now in
-    let P : Verdict → Type 0 = λ v. Tells Gains F.tells (g.H.Shelf.held c.args.shelf.now) (record { blocks = F.block_count x; block_len = F.block_len x }) (F.contents x) (F.contents c.replay.new.flash)
-    (g.A.Source.left c.args.air.now) (g.A.Source.left c.replay.new.air) (g.T.Sink.contents c.args.out.now) (g.T.Sink.contents c.put_line.new.out) v in
-    let told : P c.in-Ok-replay.verdict = record {
-      box_file = c.in-Ok.file;
-      told = c.in-Ok.ensures.found;
-      comes = c.in-Ok-replay.ensures.verdict;
-      ends = c.in-Ok-replay.ensures.ends;
-      takes = c.in-Ok-replay.ensures.taken;
-      seen = c.in-Ok-replay.ensures.seen;
-      prints = c.in-Ok-put_line.ensures.whole;
-    } in
-    rw c.status_of.ensures (told_nothing P c.in-Ok-replay.verdict told)
-
-pub returns-in-Ok-put_line-clause-incomplete : goal.returns-in-Ok-put_line-clause-incomplete
-returns-in-Ok-put_line-clause-incomplete g c =
-    let F = g.F.Flash in
-    let x = c.args.flash.now in
-    let P : Verdict → Type 0 = λ v. Tells Gains F.tells (g.H.Shelf.held c.args.shelf.now) (record { blocks = F.block_count x; block_len = F.block_len x }) (F.contents x) (F.contents c.replay.new.flash)
-    (g.A.Source.left c.args.air.now) (g.A.Source.left c.replay.new.air) (g.T.Sink.contents c.args.out.now) (g.T.Sink.contents c.put_line.new.out) v in
-    let told : P c.in-Ok-replay.verdict = record {
-      box_file = c.in-Ok.file;
-      told = c.in-Ok.ensures.found;
-      comes = c.in-Ok-replay.ensures.verdict;
-      ends = c.in-Ok-replay.ensures.ends;
-      takes = c.in-Ok-replay.ensures.taken;
-      seen = c.in-Ok-replay.ensures.seen;
-      prints = c.in-Ok-put_line.ensures.whole;
-    } in
-    rw c.status_of.ensures (told_incomplete P c.in-Ok-replay.verdict told)
-
-pub returns-in-Ok-put_line-clause-bad_module : goal.returns-in-Ok-put_line-clause-bad_module
-returns-in-Ok-put_line-clause-bad_module g c =
-    let F = g.F.Flash in
-    let x = c.args.flash.now in
-    let P : Verdict → Type 0 = λ v. Tells Gains F.tells (g.H.Shelf.held c.args.shelf.now) (record { blocks = F.block_count x; block_len = F.block_len x }) (F.contents x) (F.contents c.replay.new.flash)
-    (g.A.Source.left c.args.air.now) (g.A.Source.left c.replay.new.air) (g.T.Sink.contents c.args.out.now) (g.T.Sink.contents c.put_line.new.out) v in
-    let told : P c.in-Ok-replay.verdict = record {
-      box_file = c.in-Ok.file;
-      told = c.in-Ok.ensures.found;
-      comes = c.in-Ok-replay.ensures.verdict;
-      ends = c.in-Ok-replay.ensures.ends;
-      takes = c.in-Ok-replay.ensures.taken;
-      seen = c.in-Ok-replay.ensures.seen;
-      prints = c.in-Ok-put_line.ensures.whole;
-    } in
-    rw c.status_of.ensures (told_bad_module P c.in-Ok-replay.verdict told)
-
-pub returns-in-Ok-put_line-clause-unsettled : goal.returns-in-Ok-put_line-clause-unsettled
-returns-in-Ok-put_line-clause-unsettled g c =
-    let F = g.F.Flash in
-    let x = c.args.flash.now in
-    let P : Verdict → Type 0 = λ v. Tells Gains F.tells (g.H.Shelf.held c.args.shelf.now) (record { blocks = F.block_count x; block_len = F.block_len x }) (F.contents x) (F.contents c.replay.new.flash)
-    (g.A.Source.left c.args.air.now) (g.A.Source.left c.replay.new.air) (g.T.Sink.contents c.args.out.now) (g.T.Sink.contents c.put_line.new.out) v in
-    let told : P c.in-Ok-replay.verdict = record {
-      box_file = c.in-Ok.file;
-      told = c.in-Ok.ensures.found;
-      comes = c.in-Ok-replay.ensures.verdict;
-      ends = c.in-Ok-replay.ensures.ends;
-      takes = c.in-Ok-replay.ensures.taken;
-      seen = c.in-Ok-replay.ensures.seen;
-      prints = c.in-Ok-put_line.ensures.whole;
-    } in
-    rw c.status_of.ensures (told_unsettled P c.in-Ok-replay.verdict told)
-
-pub returns-in-Err-put_line-clause-write_fault : goal.returns-in-Err-put_line-clause-write_fault
-returns-in-Err-put_line-clause-write_fault g c = (
-  c.in-Ok-replay.verdict,
-  record {
-    box_file = c.in-Ok.file;
-    told = c.in-Ok.ensures.found;
-    comes = c.in-Ok-replay.ensures.verdict;
-    ends = c.in-Ok-replay.ensures.ends;
-    takes = c.in-Ok-replay.ensures.taken;
-    seen = c.in-Ok-replay.ensures.seen;
-    prints = c.in-Err-put_line.ensures.prefix;
-  },
-)
-
--- ---- what is not changed
-
-pub returns-in-Err-clause-worn_out : goal.returns-in-Err-clause-worn_out
-returns-in-Err-clause-worn_out g c = λ tells worn.
-    let F = g.F.Flash in
-    (refl, reads_none F.tells F.contents F.block_count F.block_len F.moment F.left_since c.args.flash.now (g.met.F.Flash.only_now c.args.flash.now))
-
-pub returns-in-Ok-put_line-clause-unopened : goal.returns-in-Ok-put_line-clause-unopened
-returns-in-Ok-put_line-clause-unopened g c = rw c.status_of.ensures (none_unopened _ c.in-Ok-replay.verdict)
-
--- ---- a group that is carried whole
-
-pub returns-in-Err-clause-carried : goal.returns-in-Err-clause-carried
-returns-in-Err-clause-carried g c = λ tells limits sound fresh before boots box_file holds shelf_well air_well flash_well out_well memory front rest chosen image left within reaches.
-    absurd (box_is_had _ (g.H.Shelf.held c.args.shelf.now) box_file c.in-Err.status holds c.in-Err.ensures.refusals c.in-Err.ensures.absent c.in-Err.ensures.refused c.in-Err.ensures.fault_cause shelf_well memory)
-
-pub returns-in-Err-Geometry-clause-carried : goal.returns-in-Err-Geometry-clause-carried
-returns-in-Err-Geometry-clause-carried g c = λ tells limits sound fresh before boots box_file holds shelf_well air_well flash_well out_well memory front rest chosen image left within reaches.
-    absurd (c.in-Err-Geometry.ensures.carried tells limits sound fresh before boots air_well flash_well (not_memory _ _ c.in-Err-Geometry.field-0-is (λ is. cc)) front rest chosen image left within
-    (for_box (g.H.Shelf.held c.args.shelf.now) box_file c.in-Ok.file _ before.head.software front (Whole chosen image) holds c.in-Ok.ensures.found reaches))
-
-pub returns-in-Err-FlashFault-clause-carried : goal.returns-in-Err-FlashFault-clause-carried
-returns-in-Err-FlashFault-clause-carried g c = λ tells limits sound fresh before boots box_file holds shelf_well air_well flash_well out_well memory front rest chosen image left within reaches.
-    absurd (c.in-Err-FlashFault.ensures.carried tells limits sound fresh before boots air_well flash_well (not_memory _ _ c.in-Err-FlashFault.field-0-is (λ is. cc)) front rest chosen image left within
-    (for_box (g.H.Shelf.held c.args.shelf.now) box_file c.in-Ok.file _ before.head.software front (Whole chosen image) holds c.in-Ok.ensures.found reaches))
-
-pub returns-in-Err-Foreign-clause-carried : goal.returns-in-Err-Foreign-clause-carried
-returns-in-Err-Foreign-clause-carried g c = λ tells limits sound fresh before boots box_file holds shelf_well air_well flash_well out_well memory front rest chosen image left within reaches.
-    absurd (c.in-Err-Foreign.ensures.carried tells limits sound fresh before boots air_well flash_well (not_memory _ _ c.in-Err-Foreign.field-0-is (λ is. cc)) front rest chosen image left within
-    (for_box (g.H.Shelf.held c.args.shelf.now) box_file c.in-Ok.file _ before.head.software front (Whole chosen image) holds c.in-Ok.ensures.found reaches))
-
-pub returns-in-Err-Worn-clause-carried : goal.returns-in-Err-Worn-clause-carried
-returns-in-Err-Worn-clause-carried g c = λ tells limits sound fresh before boots box_file holds shelf_well air_well flash_well out_well memory front rest chosen image left within reaches.
-    absurd (c.in-Err-Worn.ensures.carried tells limits sound fresh before boots air_well flash_well (not_memory _ _ c.in-Err-Worn.field-0-is (λ is. cc)) front rest chosen image left within
-    (for_box (g.H.Shelf.held c.args.shelf.now) box_file c.in-Ok.file _ before.head.software front (Whole chosen image) holds c.in-Ok.ensures.found reaches))
-
-pub returns-in-Err-Memory-clause-carried : goal.returns-in-Err-Memory-clause-carried
-returns-in-Err-Memory-clause-carried g c = λ tells limits sound fresh before boots box_file holds shelf_well air_well flash_well out_well memory front rest chosen image left within reaches.
-    absurd (memory refl)
-
-pub returns-in-Err-ReadFault-clause-carried : goal.returns-in-Err-ReadFault-clause-carried
-returns-in-Err-ReadFault-clause-carried g c = λ tells limits sound fresh before boots box_file holds shelf_well air_well flash_well out_well memory front rest chosen image left within reaches.
-    absurd (c.in-Err-ReadFault.ensures.carried tells limits sound fresh before boots air_well flash_well (not_memory _ _ c.in-Err-ReadFault.field-0-is (λ is. cc)) front rest chosen image left within
-    (for_box (g.H.Shelf.held c.args.shelf.now) box_file c.in-Ok.file _ before.head.software front (Whole chosen image) holds c.in-Ok.ensures.found reaches))
-
-pub returns-in-Err-TooLong-clause-carried : goal.returns-in-Err-TooLong-clause-carried
-returns-in-Err-TooLong-clause-carried g c = λ tells limits sound fresh before boots box_file holds shelf_well air_well flash_well out_well memory front rest chosen image left within reaches.
-    absurd (c.in-Err-TooLong.ensures.carried tells limits sound fresh before boots air_well flash_well (not_memory _ _ c.in-Err-TooLong.field-0-is (λ is. cc)) front rest chosen image left within
-    (for_box (g.H.Shelf.held c.args.shelf.now) box_file c.in-Ok.file _ before.head.software front (Whole chosen image) holds c.in-Ok.ensures.found reaches))
-
-pub returns-in-Ok-put_line-clause-carried : goal.returns-in-Ok-put_line-clause-carried
-returns-in-Ok-put_line-clause-carried g c = λ tells limits sound fresh before boots box_file holds shelf_well air_well flash_well out_well memory front rest chosen image left within reaches.
-    let installed = c.in-Ok-replay.ensures.carried tells limits sound fresh before boots air_well flash_well (λ is. cc) front rest chosen image left within
-    (for_box (g.H.Shelf.held c.args.shelf.now) box_file c.in-Ok.file _ before.head.software front (Whole chosen image) holds c.in-Ok.ensures.found reaches) in
-    (c.status_of.ensures ∙ ap status_of installed.0, installed.1)
-
-pub returns-in-Err-put_line-clause-carried : goal.returns-in-Err-put_line-clause-carried
-returns-in-Err-put_line-clause-carried g c = λ tells limits sound fresh before boots box_file holds shelf_well air_well flash_well out_well memory front rest chosen image left within reaches.
-    absurd (out_well (c.in-Err-put_line.ensures.cause.failed refl))
-
--- ---- where no choice begins
-
-pub returns-in-Err-clause-untouched : goal.returns-in-Err-clause-untouched
-returns-in-Err-clause-untouched g c = λ tells before boots box_file holds taken rest left left_after none.
-    let F = g.F.Flash in
-    reads_none F.tells F.contents F.block_count F.block_len F.moment F.left_since c.args.flash.now (g.met.F.Flash.only_now c.args.flash.now)
-
-pub returns-in-Err-Geometry-clause-untouched : goal.returns-in-Err-Geometry-clause-untouched
-returns-in-Err-Geometry-clause-untouched g c = λ tells before boots box_file holds taken rest left left_after none.
-    c.replay.ensures.untouched tells before boots taken rest left left_after
-    (begins_for_box (g.H.Shelf.held c.args.shelf.now) box_file c.in-Ok.file _ before.head.software taken holds c.in-Ok.ensures.found none)
-
-pub returns-in-Err-FlashFault-clause-untouched : goal.returns-in-Err-FlashFault-clause-untouched
-returns-in-Err-FlashFault-clause-untouched g c = λ tells before boots box_file holds taken rest left left_after none.
-    c.replay.ensures.untouched tells before boots taken rest left left_after
-    (begins_for_box (g.H.Shelf.held c.args.shelf.now) box_file c.in-Ok.file _ before.head.software taken holds c.in-Ok.ensures.found none)
-
-pub returns-in-Err-Foreign-clause-untouched : goal.returns-in-Err-Foreign-clause-untouched
-returns-in-Err-Foreign-clause-untouched g c = λ tells before boots box_file holds taken rest left left_after none.
-    c.replay.ensures.untouched tells before boots taken rest left left_after
-    (begins_for_box (g.H.Shelf.held c.args.shelf.now) box_file c.in-Ok.file _ before.head.software taken holds c.in-Ok.ensures.found none)
-
-pub returns-in-Err-Worn-clause-untouched : goal.returns-in-Err-Worn-clause-untouched
-returns-in-Err-Worn-clause-untouched g c = λ tells before boots box_file holds taken rest left left_after none.
-    c.replay.ensures.untouched tells before boots taken rest left left_after
-    (begins_for_box (g.H.Shelf.held c.args.shelf.now) box_file c.in-Ok.file _ before.head.software taken holds c.in-Ok.ensures.found none)
-
-pub returns-in-Err-Memory-clause-untouched : goal.returns-in-Err-Memory-clause-untouched
-returns-in-Err-Memory-clause-untouched g c = λ tells before boots box_file holds taken rest left left_after none.
-    c.replay.ensures.untouched tells before boots taken rest left left_after
-    (begins_for_box (g.H.Shelf.held c.args.shelf.now) box_file c.in-Ok.file _ before.head.software taken holds c.in-Ok.ensures.found none)
-
-pub returns-in-Err-ReadFault-clause-untouched : goal.returns-in-Err-ReadFault-clause-untouched
-returns-in-Err-ReadFault-clause-untouched g c = λ tells before boots box_file holds taken rest left left_after none.
-    c.replay.ensures.untouched tells before boots taken rest left left_after
-    (begins_for_box (g.H.Shelf.held c.args.shelf.now) box_file c.in-Ok.file _ before.head.software taken holds c.in-Ok.ensures.found none)
-
-pub returns-in-Err-TooLong-clause-untouched : goal.returns-in-Err-TooLong-clause-untouched
-returns-in-Err-TooLong-clause-untouched g c = λ tells before boots box_file holds taken rest left left_after none.
-    c.replay.ensures.untouched tells before boots taken rest left left_after
-    (begins_for_box (g.H.Shelf.held c.args.shelf.now) box_file c.in-Ok.file _ before.head.software taken holds c.in-Ok.ensures.found none)
-
-pub returns-in-Ok-put_line-clause-untouched : goal.returns-in-Ok-put_line-clause-untouched
-returns-in-Ok-put_line-clause-untouched g c = λ tells before boots box_file holds taken rest left left_after none.
-    c.replay.ensures.untouched tells before boots taken rest left left_after
-    (begins_for_box (g.H.Shelf.held c.args.shelf.now) box_file c.in-Ok.file _ before.head.software taken holds c.in-Ok.ensures.found none)
-
-pub returns-in-Err-put_line-clause-untouched : goal.returns-in-Err-put_line-clause-untouched
-returns-in-Err-put_line-clause-untouched g c = λ tells before boots box_file holds taken rest left left_after none.
-    c.replay.ensures.untouched tells before boots taken rest left left_after
-    (begins_for_box (g.H.Shelf.held c.args.shelf.now) box_file c.in-Ok.file _ before.head.software taken holds c.in-Ok.ensures.found none)
+pub returns-in-Err-put_line : goal.returns-in-Err-put_line
+returns-in-Err-put_line g c =
+    let f = g.F.Flash in
+    let file = c.in-Ok.file in
+    let told = c.in-Ok.ensures.found in
+    let old = c.args.flash.now in
+    let new = c.replay.new.flash in
+    let shelf = shelf_seen g.H.Shelf c.args.shelf.now c.read_box.new.shelf in
+    let air = source_seen g.A.Source c.args.air.now c.replay.new.air in
+    let flash = flash_seen f old new in
+    let out = sink_seen g.T.Sink c.args.out.now c.put_line.new.out in
+    let b = c.read_box.ensures in
+    let r = c.replay.ensures.replays in
+    let v = c.in-Ok-replay.verdict in
+    let ends = c.in-Ok-replay.ensures.replays.ends in
+    let failed = c.in-Err-put_line.ensures.cause.failed refl in
+    record {
+      replays = record {
+        at_any_moment = λ tells sound former boot. leaves_for f shelf air old new former file told (r.at_any_moment tells sound former boot);
+        carried = λ tells ready former boot box_file holds well memory front rest chosen image left within first. absurd (well.out_well failed);
+        answers = (failed, (v, record { box_file = file; told = told; ends = ends; prints = c.in-Err-put_line.ensures.prefix }));
+        files = reads_written g.S.Stage.IN_BANK shelf air flash out b.unchanged b.faults b.absences;
+        no_box = λ none. absurd (none_absent shelf.held file told none);
+        complete = λ well is. well.out_well failed;
+        untouched = λ tells former boot box_file holds taken rest left left_after none.
+            r.untouched tells former boot taken rest left left_after (for_box shelf.held box_file file (λ own. BeginsNone (receiver_at own flash former) taken) holds told none);
+        refused = r.refused;
+        blocks = r.blocks;
+        air_later = r.air_later;
+        flash_later = r.flash_later;
+        out_later = c.put_line.ensures.cause.later;
+      };
+    }

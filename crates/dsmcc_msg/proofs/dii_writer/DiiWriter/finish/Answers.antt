@@ -1,7 +1,7 @@
 use Rattle.std.proofs.Common.{List, ℕ, arith, subst, sym}
 use Rattle.dsmcc_msg.specs.Control.{dii}
 use Rattle.dsmcc_msg.specs.Exact.{module_entry_exact}
-use Rattle.dsmcc_msg.specs.Row.{row_lists}
+use Rattle.dsmcc_msg.proofs.RowLaws.{row_lists}
 use Rattle.dsmcc_msg.specs.Written.{dii_of}
 use Rattle.dsmcc_msg.proofs.Back.{IsDii, dii_back}
 use Rattle.dsmcc_msg.proofs.dii_writer.DiiWriter.finish.Goals as goal

@@ -4,7 +4,7 @@ use Rattle.section_form.specs.Long.{LongFields}
 use Rattle.section_form.specs.Written.{long_bytes}
 use Rattle.dsmcc_msg.specs.Control.{dii_id}
 use Rattle.dsmcc_msg.specs.Exact.{module_entry_exact}
-use Rattle.dsmcc_msg.specs.Row.{row_lists}
+use Rattle.dsmcc_msg.proofs.RowLaws.{row_lists}
 use Rattle.dsmcc_msg.specs.Written.{control_head, dii_payload_bytes, dii_head, dii_bytes}
 use Rattle.dsmcc_msg.proofs.dii_writer.DiiWriter.make.Goals as goal
 

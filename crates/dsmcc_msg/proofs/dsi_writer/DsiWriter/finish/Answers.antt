@@ -1,7 +1,7 @@
 use Rattle.std.proofs.Common.{List, ℕ, arith, subst, sym}
 use Rattle.dsmcc_msg.specs.Control.{dsi}
 use Rattle.dsmcc_msg.specs.Exact.{group_entry_exact}
-use Rattle.dsmcc_msg.specs.Row.{row_lists}
+use Rattle.dsmcc_msg.proofs.RowLaws.{row_lists}
 use Rattle.dsmcc_msg.proofs.Back.{IsDsi, dsi_back}
 use Rattle.dsmcc_msg.proofs.dsi_writer.DsiWriter.finish.Goals as goal
 

@@ -4,7 +4,7 @@ use Rattle.section_form.specs.Long.{LongFields}
 use Rattle.section_form.specs.Written.{long_bytes}
 use Rattle.dsmcc_msg.specs.Control.{dsi_id}
 use Rattle.dsmcc_msg.specs.Exact.{group_entry_exact}
-use Rattle.dsmcc_msg.specs.Row.{row_lists}
+use Rattle.dsmcc_msg.proofs.RowLaws.{row_lists}
 use Rattle.dsmcc_msg.specs.Written.{control_head, dsi_payload_bytes, dsi_head, dsi_bytes}
 use Rattle.dsmcc_msg.proofs.dsi_writer.DsiWriter.make.Goals as goal
 

@@ -4,18 +4,18 @@ use Rattle.flash_bank.proofs.BankLemmas.{begun_bank, begun_record, begun_size, b
 use Rattle.flash_bank.proofs.bank.Bank.begin.Goals as goal
 
 pub returns-in_err-erase_spare-clause-held : goal.returns-in_err-erase_spare-clause-held
-returns-in_err-erase_spare-clause-held g c tells = leaves_begun c.args.self.now _ (c.requires.lent.fits tells) _ (c.erase_spare.ensures.held tells)
+returns-in_err-erase_spare-clause-held g c tells = leaves_begun c.args.self.now _ (c.requires.lent.fits tells) (g.met.F.Flash.are_bytes tells c.args.flash.now) _ (c.erase_spare.ensures.held tells)
 
 pub returns-in_err-erase_spare-clause-left : goal.returns-in_err-erase_spare-clause-left
 returns-in_err-erase_spare-clause-left g c tells =
-    weaker g.F.Flash.moment g.F.Flash.left_since c.args.flash.now c.erase_spare.new.flash _ _ (λ y. leaves_begun c.args.self.now _ (c.requires.lent.fits tells) y) (c.erase_spare.ensures.left tells)
+    weaker g.F.Flash.moment g.F.Flash.left_since c.args.flash.now c.erase_spare.new.flash _ _ (λ y. leaves_begun c.args.self.now _ (c.requires.lent.fits tells) (g.met.F.Flash.are_bytes tells c.args.flash.now) y) (c.erase_spare.ensures.left tells)
 
 pub returns-clause-held : goal.returns-clause-held
-returns-clause-held g c tells = leaves_begun c.args.self.now _ (c.requires.lent.fits tells) _ (c.erase_spare.ensures.held tells)
+returns-clause-held g c tells = leaves_begun c.args.self.now _ (c.requires.lent.fits tells) (g.met.F.Flash.are_bytes tells c.args.flash.now) _ (c.erase_spare.ensures.held tells)
 
 pub returns-clause-left : goal.returns-clause-left
 returns-clause-left g c tells =
-    weaker g.F.Flash.moment g.F.Flash.left_since c.args.flash.now c.erase_spare.new.flash _ _ (λ y. leaves_begun c.args.self.now _ (c.requires.lent.fits tells) y) (c.erase_spare.ensures.left tells)
+    weaker g.F.Flash.moment g.F.Flash.left_since c.args.flash.now c.erase_spare.new.flash _ _ (λ y. leaves_begun c.args.self.now _ (c.requires.lent.fits tells) (g.met.F.Flash.are_bytes tells c.args.flash.now) y) (c.erase_spare.ensures.left tells)
 
 pub returns-clause-erased_record : goal.returns-clause-erased_record
 returns-clause-erased_record g c tells = begun_record c.args.self.now _ (c.requires.lent.fits tells) _ (c.in_ok-erase_spare.ensures.done tells)

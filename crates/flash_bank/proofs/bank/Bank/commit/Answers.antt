@@ -1,8 +1,8 @@
 use Rattle.std.proofs.Common.{⊎_elim, ℕ, List, length, refl, sym, subst, ◌∙◌}
 use Rattle.flash_dev.proofs.Moments.{started, goes_on}
 use Rattle.flash_dev.specs.Changes.{Changes, IsProgrammed, IsTornProgram}
-use Rattle.flash_bank.specs.Bank.{LeavesCommitted, geometry_of, next_record}
-use Rattle.flash_bank.specs.Record.{written}
+use Rattle.flash_bank.specs.Bank.{LeavesCommitted, geometry_of}
+use Rattle.flash_bank.specs.Record.{next_record, written}
 use Rattle.flash_bank.proofs.BankLemmas.{commit_adds, done_committed, leaves_committed, same_committed}
 use Rattle.flash_bank.proofs.SpareLemmas.{adds_current, adds_head, commits}
 use Rattle.flash_bank.proofs.bank.Bank.commit.Goals as goal
@@ -12,7 +12,7 @@ returns-clause-held g c tells =
     let b = c.args.self.now in
     let x = g.F.Flash.contents c.args.flash.now in
     let y = g.F.Flash.contents c.program.new.self in
-    let new = next_record b c.args.length c.args.software c.args.group in
+    let new = next_record b.current c.args.length c.args.software c.args.group in
     let done = subst (λ (p : ℕ). Changes p 64 (IsProgrammed (written new)) x y) c.record_place.ensures
     (subst (λ (bs : List ℕ). Changes c.record_place.result (length bs) (IsProgrammed bs) x y) c.encoded.ensures.bytes (c.in_ok-program.ensures.done tells)) in
     done_committed b x (c.requires.lent.fits tells) new c.encoded.ensures.in_range refl refl c.requires.fits y done
@@ -22,7 +22,7 @@ returns-in_err-program-clause-held g c tells =
     let b = c.args.self.now in
     let x = g.F.Flash.contents c.args.flash.now in
     let y = g.F.Flash.contents c.program.new.self in
-    let new = next_record b c.args.length c.args.software c.args.group in
+    let new = next_record b.current c.args.length c.args.software c.args.group in
     let torn = subst (λ (p : ℕ). Changes p 64 (IsTornProgram (written new)) x y) c.record_place.ensures
     (subst (λ (bs : List ℕ). Changes c.record_place.result (length bs) (IsTornProgram bs) x y) c.encoded.ensures.bytes (c.in_err-program.ensures.torn tells)) in
     leaves_committed b x (c.requires.lent.fits tells) new c.encoded.ensures.in_range refl refl c.requires.fits y torn
@@ -32,7 +32,7 @@ returns-clause-left g c tells =
     let F = g.F.Flash in
     let b = c.args.self.now in
     let x = F.contents c.args.flash.now in
-    let new = next_record b c.args.length c.args.software c.args.group in
+    let new = next_record b.current c.args.length c.args.software c.args.group in
     let fits = c.requires.lent.fits tells in
     let P = LeavesCommitted b new x in
     let start = started F.moment F.left_since c.args.flash.now P
@@ -49,7 +49,7 @@ returns-in_err-program-clause-left g c tells =
     let F = g.F.Flash in
     let b = c.args.self.now in
     let x = F.contents c.args.flash.now in
-    let new = next_record b c.args.length c.args.software c.args.group in
+    let new = next_record b.current c.args.length c.args.software c.args.group in
     let fits = c.requires.lent.fits tells in
     let P = LeavesCommitted b new x in
     let start = started F.moment F.left_since c.args.flash.now P
@@ -66,7 +66,7 @@ returns-clause-committed g c tells =
     let b = c.args.self.now in
     let x = g.F.Flash.contents c.args.flash.now in
     let y = g.F.Flash.contents c.program.new.self in
-    let new = next_record b c.args.length c.args.software c.args.group in
+    let new = next_record b.current c.args.length c.args.software c.args.group in
     let done = subst (λ (p : ℕ). Changes p 64 (IsProgrammed (written new)) x y) c.record_place.ensures
     (subst (λ (bs : List ℕ). Changes c.record_place.result (length bs) (IsProgrammed bs) x y) c.encoded.ensures.bytes (c.in_ok-program.ensures.done tells)) in
     commits (geometry_of b) new x y b.block (commit_adds b x (c.requires.lent.fits tells) new c.encoded.ensures.in_range refl refl c.requires.fits y done)
@@ -76,7 +76,7 @@ returns-clause-lent g c =
     let b = c.args.self.now in
     let x = g.F.Flash.contents c.args.flash.now in
     let y = g.F.Flash.contents c.program.new.self in
-    let new = next_record b c.args.length c.args.software c.args.group in
+    let new = next_record b.current c.args.length c.args.software c.args.group in
     record {
       usable = refl;
       blocks = c.program.ensures.blocks ∙ c.requires.lent.blocks;

@@ -2,30 +2,29 @@ use Rattle.std.proofs.Common.{◌≡◌, List, Some, subst, ◌∙◌, arith}
 use Rattle.ssu_group.specs.Place.{place_at}
 use Rattle.ssu_group.specs.declared.module_plan.ModulePlan.{ModulePlan}
 use Rattle.flash_dev.proofs.Moments.{weaker}
-use Rattle.flash_bank.specs.Bank.{LeavesBegun}
+use Rattle.flash_bank.specs.Bank.{LeavesBegun, geometry_of}
 use Rattle.flash_stage.specs.Leaving.{SameBank}
 use Rattle.flash_stage.proofs.InBankLemmas.{blank_place, few_places}
-use Rattle.flash_stage.proofs.LeavingLaws.{begun_leaves}
 use Rattle.flash_stage.proofs.bank_stage.BankStageStage.start.Goals as goal
 
 pub clear-requires : goal.clear-requires
 clear-requires g c = few_places c.args.plan.now c.args.self.now.most c.args.self.now.map.most c.args.self.now.room (omega (arith, c.requires.inside, c.requires.made_for))
 
 pub returns-in_err-begin-clause-held : goal.returns-in_err-begin-clause-held
-returns-in_err-begin-clause-held g c tells = begun_leaves c.args.bank.now _ _ (c.begin.ensures.held tells)
+returns-in_err-begin-clause-held g c tells = (c.begin.ensures.held tells).keeps
 
 pub returns-in_err-begin-clause-left : goal.returns-in_err-begin-clause-left
 returns-in_err-begin-clause-left g c tells =
     let x = g.F.Flash.contents c.args.flash.now in
-    weaker g.F.Flash.moment g.F.Flash.left_since c.args.flash.now c.begin.new.flash (LeavesBegun c.args.bank.now x) _ (λ y. begun_leaves c.args.bank.now x y) (c.begin.ensures.left tells)
+    weaker g.F.Flash.moment g.F.Flash.left_since c.args.flash.now c.begin.new.flash (LeavesBegun (geometry_of c.args.bank.now) x) _ (λ y leaves. leaves.keeps) (c.begin.ensures.left tells)
 
 pub returns-clause-held : goal.returns-clause-held
-returns-clause-held g c tells = begun_leaves c.args.bank.now _ _ (c.begin.ensures.held tells)
+returns-clause-held g c tells = (c.begin.ensures.held tells).keeps
 
 pub returns-clause-left : goal.returns-clause-left
 returns-clause-left g c tells =
     let x = g.F.Flash.contents c.args.flash.now in
-    weaker g.F.Flash.moment g.F.Flash.left_since c.args.flash.now c.begin.new.flash (LeavesBegun c.args.bank.now x) _ (λ y. begun_leaves c.args.bank.now x y) (c.begin.ensures.left tells)
+    weaker g.F.Flash.moment g.F.Flash.left_since c.args.flash.now c.begin.new.flash (LeavesBegun (geometry_of c.args.bank.now) x) _ (λ y leaves. leaves.keeps) (c.begin.ensures.left tells)
 
 pub returns-clause-agrees : goal.returns-clause-agrees
 returns-clause-agrees g c tells number p at free =

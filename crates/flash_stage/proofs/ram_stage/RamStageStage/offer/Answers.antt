@@ -2,9 +2,10 @@ use Rattle.std.proofs.Common.{refl, sym, subst, ◌∙◌}
 use Rattle.std.proofs.lemmas.Bool.{eq-eqb}
 use Rattle.flash_dev.proofs.Moments.{started}
 use Rattle.group_image.specs.Image.{bytes_at}
-use Rattle.flash_stage.specs.Leaving.{StageLeaves}
 use Rattle.flash_stage.specs.Ram.{bytes_in}
-use Rattle.flash_stage.proofs.LeavingLaws.{leaves_same}
+use Rattle.flash_bank.proofs.LeavingLemmas.{keeps_boot_same}
+use Rattle.flash_bank.specs.Bank.{geometry_of}
+use Rattle.flash_bank.specs.Leaving.{KeepsBoot}
 use Rattle.flash_stage.proofs.RamLemmas.{new_text, old_text, plan_in, still_outline, still_started}
 use Rattle.flash_stage.proofs.ram_stage.RamStageStage.offer.Goals as goal
 
@@ -41,5 +42,5 @@ returns-clause-left g c tells =
     let F = g.F.Flash in
     let b = c.args._bank.now in
     let f = c.args._flash.now in
-    let P = StageLeaves b (F.contents f) in
-    started F.moment F.left_since f P (λ y left. subst P (sym (g.met.F.Flash.only_now f y left)) (leaves_same b (F.contents f) (c.requires.lent.fits tells).sound))
+    let P = KeepsBoot (geometry_of b) (F.contents f) in
+    started F.moment F.left_since f P (λ y left. subst P (sym (g.met.F.Flash.only_now f y left)) (keeps_boot_same (geometry_of b) (F.contents f) (c.requires.lent.fits tells).sound))

@@ -1,5 +1,5 @@
-use Rattle.wire.specs.Laws.{whole_found, whole_only}
-use Rattle.si_table.specs.Exact.{net_exact}
+use Rattle.wire.proofs.Laws.{whole_found, whole_only}
+use Rattle.si_table.proofs.Exact.{net_exact}
 use Rattle.si_table.specs.Views.{net_view}
 use Rattle.si_table.proofs.net.Net.read.Goals as goal
 

@@ -1,5 +1,5 @@
-use Rattle.wire.specs.Laws.{whole_found, whole_only}
-use Rattle.si_table.specs.Exact.{pat_exact}
+use Rattle.wire.proofs.Laws.{whole_found, whole_only}
+use Rattle.si_table.proofs.Exact.{pat_exact}
 use Rattle.si_table.specs.Views.{pat_view}
 use Rattle.si_table.proofs.pat.Pat.read.Goals as goal
 

@@ -1,5 +1,5 @@
-use Rattle.wire.specs.Laws.{whole_found, whole_only}
-use Rattle.si_table.specs.Exact.{pmt_exact}
+use Rattle.wire.proofs.Laws.{whole_found, whole_only}
+use Rattle.si_table.proofs.Exact.{pmt_exact}
 use Rattle.si_table.specs.Views.{pmt_view}
 use Rattle.si_table.proofs.pmt.Pmt.read.Goals as goal
 

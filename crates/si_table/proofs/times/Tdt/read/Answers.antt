@@ -1,5 +1,5 @@
-use Rattle.wire.specs.Laws.{whole_found, whole_only}
-use Rattle.si_table.specs.Exact.{tdt_exact}
+use Rattle.wire.proofs.Laws.{whole_found, whole_only}
+use Rattle.si_table.proofs.Exact.{tdt_exact}
 use Rattle.si_table.specs.Views.{tdt_view}
 use Rattle.si_table.proofs.times.Tdt.read.Goals as goal
 

@@ -1,5 +1,5 @@
-use Rattle.wire.specs.Laws.{whole_found, whole_only}
-use Rattle.si_table.specs.Exact.{tot_exact}
+use Rattle.wire.proofs.Laws.{whole_found, whole_only}
+use Rattle.si_table.proofs.Exact.{tot_exact}
 use Rattle.si_table.specs.Views.{tot_view}
 use Rattle.si_table.proofs.times.Tot.read.Goals as goal
 

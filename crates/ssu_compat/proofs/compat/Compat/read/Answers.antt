@@ -1,6 +1,6 @@
 use Rattle.std.proofs.Common.{arith}
-use Rattle.wire.specs.Laws.{front_found, front_only_counted, front_none}
-use Rattle.ssu_compat.specs.Exact.{compat_exact}
+use Rattle.wire.proofs.Laws.{front_found, front_only_counted, front_none}
+use Rattle.ssu_compat.proofs.Exact.{compat_exact}
 use Rattle.ssu_compat.proofs.compat.Compat.read.Goals as goal
 
 pub returns-in_err-compat-clause-only : goal.returns-in_err-compat-clause-only

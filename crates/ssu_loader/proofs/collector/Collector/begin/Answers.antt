@@ -1,7 +1,8 @@
 use Rattle.std.proofs.Common.{◌≡◌, ◌+◌, ◌<◌, ◌≤◌, ℕ, List, ◌∷◌, inl, sym, ap, subst, ◌∙◌, arith}
+use Rattle.flash_bank.proofs.LeavingLemmas.{keeps_boot_same}
+use Rattle.flash_bank.specs.Bank.{geometry_of}
+use Rattle.flash_bank.specs.Leaving.{KeepsBoot}
 use Rattle.flash_dev.proofs.Moments.{weaker}
-use Rattle.flash_stage.specs.Leaving.{StageLeaves}
-use Rattle.flash_stage.proofs.LeavingLaws.{leaves_same}
 use Rattle.ssu_group.specs.Carried.{missing_places}
 use Rattle.ssu_route.specs.Windows.{beginnings}
 use Rattle.ssu_route.proofs.Choices.{one_more_begins}
@@ -13,6 +14,7 @@ use Rattle.ssu_loader.proofs.ChoiceLaws.{all_missing, begun_stands, begun_window
 use Rattle.ssu_loader.proofs.CollectingLaws.{begun_seen, choice_collects}
 use Rattle.ssu_loader.proofs.DecisionLaws.{few_begin, missing_decides, open_more, reached_now, sixteen_begin}
 use Rattle.ssu_loader.proofs.LeftLaws.{left_now}
+use Rattle.ssu_loader.proofs.UnlessLaws.{unless_from}
 use Rattle.ssu_loader.proofs.collector.Collector.begin.Goals as goal
 
 pub returns-then-self-eq-MAX_CHOICES-clause-goes_on : goal.returns-then-self-eq-MAX_CHOICES-clause-goes_on
@@ -20,7 +22,7 @@ returns-then-self-eq-MAX_CHOICES-clause-goes_on g c = λ tells me item heard ahe
     let x = g.F.Flash.contents c.args.flash.now in (
       reached_now me item heard TooMany ahead.gathers.knows.undecided
           (sixteen_begin me item heard ahead.changes (sym ahead.gathers.knows.counted ∙ c.if-self-eq-MAX_CHOICES.true)),
-      leaves_same c.args.self.now.bank x (ahead.gathers.lent.fits tells).sound,
+      keeps_boot_same (geometry_of c.args.self.now.bank) x (ahead.gathers.lent.fits tells).sound,
     )
 
 pub returns-then-self-eq-MAX_CHOICES-clause-left : goal.returns-then-self-eq-MAX_CHOICES-clause-left
@@ -28,7 +30,7 @@ returns-then-self-eq-MAX_CHOICES-clause-left g c = λ tells me item heard ahead.
     let f = g.F.Flash in
     let x = f.contents c.args.flash.now in
     left_now f g.met.F.Flash.only_now c.args.flash.now (SectionsLeave me (item ∷ heard) c.args.self.now.bank x)
-    (inl (leaves_same c.args.self.now.bank x (ahead.gathers.lent.fits tells).sound))
+    (inl (keeps_boot_same (geometry_of c.args.self.now.bank) x (ahead.gathers.lent.fits tells).sound))
 
 pub start-requires-clause-inside : goal.start-requires-clause-inside
 start-requires-clause-inside g c =
@@ -70,7 +72,7 @@ pub returns-in-Some-clause-left : goal.returns-in-Some-clause-left
 returns-in-Some-clause-left g c = λ tells me item heard ahead.
     let f = g.F.Flash in
     let x = f.contents c.args.flash.now in
-    weaker f.moment f.left_since c.args.flash.now c.start.new.flash (StageLeaves c.args.self.now.bank x) (SectionsLeave me (item ∷ heard) c.args.self.now.bank x)
+    weaker f.moment f.left_since c.args.flash.now c.start.new.flash (KeepsBoot (geometry_of c.args.self.now.bank) x) (SectionsLeave me (item ∷ heard) c.args.self.now.bank x)
     (λ y leaves. inl leaves) (c.start.ensures.left tells)
 
 pub returns-then-self-eq-MAX_CHOICES-clause-seen : goal.returns-then-self-eq-MAX_CHOICES-clause-seen
@@ -107,3 +109,6 @@ returns-in-Some-clause-too_many g c = λ me item heard ahead many.
     let below : beginnings me heard < 16 = grind (arith, count, few, c.if-self-eq-MAX_CHOICES.false) in
     let not = few_begin me item heard below in
     absurd cc
+
+pub returns-in-Some-clause-same_bank : goal.returns-in-Some-clause-same_bank
+returns-in-Some-clause-same_bank g c = unless_from c.start.result _ c.start.ensures.same_bank

@@ -1,6 +1,7 @@
 use Rattle.std.proofs.Common.{◌≡◌, ◌∷◌, ap, arith, inl, sym, ◌∙◌}
+use Rattle.flash_bank.proofs.LeavingLemmas.{keeps_boot_same}
+use Rattle.flash_bank.specs.Bank.{geometry_of}
 use Rattle.flash_bank.specs.declared.record.Record.{Record}
-use Rattle.flash_stage.proofs.LeavingLaws.{leaves_same}
 use Rattle.route_tables.specs.Next.{heard_on}
 use Rattle.ssu_route.specs.declared.change.Change.TheVariants as change
 use Rattle.ssu_route.proofs.Choices.{lost_none, one_more_begins}
@@ -43,14 +44,14 @@ returns-in-Lost-clause-collects g c = λ me heard collects.
 
 pub returns-in-Lost-clause-goes_on : goal.returns-in-Lost-clause-goes_on
 returns-in-Lost-clause-goes_on g c = λ tells me heard collects.
-    leaves_same c.args.self.now.bank (g.F.Flash.contents c.args.flash.now) (collects.gathers.lent.fits tells).sound
+    keeps_boot_same (geometry_of c.args.self.now.bank) (g.F.Flash.contents c.args.flash.now) (collects.gathers.lent.fits tells).sound
 
 pub returns-in-Lost-clause-left : goal.returns-in-Lost-clause-left
 returns-in-Lost-clause-left g c = λ tells me heard collects.
     let f = g.F.Flash in
     let x = f.contents c.args.flash.now in
     left_now f g.met.F.Flash.only_now c.args.flash.now (SectionsLeave me (heard_on c.args.pid c.args.section.now ∷ heard) c.args.self.now.bank x)
-    (inl (leaves_same c.args.self.now.bank x (collects.gathers.lent.fits tells).sound))
+    (inl (keeps_boot_same (geometry_of c.args.self.now.bank) x (collects.gathers.lent.fits tells).sound))
 
 pub returns-in-Chosen-clause-collects : goal.returns-in-Chosen-clause-collects
 returns-in-Chosen-clause-collects g c = λ me heard collects.

@@ -1,7 +1,8 @@
 use Rattle.std.proofs.Common.{◌≡◌, ◌≢◌, ◌∷◌, Some, arith, inl, refl, sym, ◌∙◌}
+use Rattle.flash_bank.proofs.LeavingLemmas.{keeps_boot_same}
+use Rattle.flash_bank.specs.Bank.{geometry_of}
 use Rattle.std.specs.Prelude.{IsSome}
 use Rattle.flash_dev.proofs.Moments.{weaker}
-use Rattle.flash_stage.proofs.LeavingLaws.{leaves_same}
 use Rattle.route_tables.specs.Next.{heard_on}
 use Rattle.ssu_route.specs.Choosing.{level_7}
 use Rattle.ssu_route.specs.Queries.{carousel_pid}
@@ -15,6 +16,7 @@ use Rattle.ssu_loader.proofs.AnsweringLaws.{both_if_ok, five_where_none, inside_
 use Rattle.ssu_loader.proofs.ChoiceLaws.{choice_back, none_at, passes_by, some_at, some_began}
 use Rattle.ssu_loader.proofs.CollectingLaws.{none_collects, passed_collects, taken_collects, taken_filled, taken_goes_on, taken_holds, taken_leaves, taken_seen}
 use Rattle.ssu_loader.proofs.LeftLaws.{left_now}
+use Rattle.ssu_loader.proofs.UnlessLaws.{unless_none}
 use Rattle.ssu_loader.proofs.collector.Collector.take.Goals as goal
 
 pub gather-requires : goal.gather-requires
@@ -39,7 +41,7 @@ returns-in-None-clause-left g c = λ tells me heard ahead.
     let f = g.F.Flash in
     let x = f.contents c.args.flash.now in
     left_now f g.met.F.Flash.only_now c.args.flash.now (SectionsLeave me (heard_on c.args.pid c.args.section.now ∷ heard) c.args.self.now.bank x)
-    (inl (leaves_same c.args.self.now.bank x (ahead.gathers.lent.fits tells).sound))
+    (inl (keeps_boot_same (geometry_of c.args.self.now.bank) x (ahead.gathers.lent.fits tells).sound))
 
 pub returns-then-is_on-clause-collects : goal.returns-then-is_on-clause-collects
 returns-then-is_on-clause-collects g c = λ me heard ahead.
@@ -58,7 +60,7 @@ returns-then-is_on-clause-collects g c = λ me heard ahead.
     five_where_none c.gather.result _ _ _ _
     (f.tells → HoldsFilling s choice.plan (c.args.section.now ∷ w) new.stage new.bank (f.contents new.flash)) _
     (λ works bank most filled holds. taken_collects s f me item heard self flash choice ahead is some joins new.stage new.bank new.flash works bank most filled holds)
-    c.gather.ensures.works c.gather.ensures.same_bank c.gather.ensures.most
+    c.gather.ensures.works (unless_none c.gather.result _ c.gather.ensures.same_bank) c.gather.ensures.most
     (c.gather.ensures.filled w (taken_filled s f me item heard self flash choice ahead is some joins))
     (inside_where_none c.gather.result _ _ (λ tells. c.gather.ensures.bytes tells w (taken_filled s f me item heard self flash choice ahead is some joins)
     (taken_holds s f me item heard self flash choice ahead is some joins tells)))
@@ -128,14 +130,14 @@ returns-else-is_on-clause-collects g c = λ me heard ahead.
 
 pub returns-else-is_on-clause-goes_on : goal.returns-else-is_on-clause-goes_on
 returns-else-is_on-clause-goes_on g c = λ tells me heard ahead.
-    leaves_same c.args.self.now.bank (g.F.Flash.contents c.args.flash.now) (ahead.gathers.lent.fits tells).sound
+    keeps_boot_same (geometry_of c.args.self.now.bank) (g.F.Flash.contents c.args.flash.now) (ahead.gathers.lent.fits tells).sound
 
 pub returns-else-is_on-clause-left : goal.returns-else-is_on-clause-left
 returns-else-is_on-clause-left g c = λ tells me heard ahead.
     let f = g.F.Flash in
     let x = f.contents c.args.flash.now in
     left_now f g.met.F.Flash.only_now c.args.flash.now (SectionsLeave me (heard_on c.args.pid c.args.section.now ∷ heard) c.args.self.now.bank x)
-    (inl (leaves_same c.args.self.now.bank x (ahead.gathers.lent.fits tells).sound))
+    (inl (keeps_boot_same (geometry_of c.args.self.now.bank) x (ahead.gathers.lent.fits tells).sound))
 
 pub returns-in-None-clause-seen : goal.returns-in-None-clause-seen
 returns-in-None-clause-seen g c = λ me heard ahead.

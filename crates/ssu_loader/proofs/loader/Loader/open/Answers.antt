@@ -1,13 +1,12 @@
 use Rattle.std.proofs.Common.{◌≡◌, ◌<◌, sym, subst, ap, ◌∙◌}
 use Rattle.flash_bank.specs.Bank.{IsLent, current_of, geometry_of}
-use Rattle.flash_bank.specs.Layout.{Geometry}
+use Rattle.flash_bank.specs.Layout.{Geometry, blocks_of}
 use Rattle.flash_bank.specs.Sound.{IsWorn}
 use Rattle.flash_bank.specs.declared.bank.Bank.{Bank}
 use Rattle.std.specs.Prelude.{Err}
 use Rattle.flash_bank.specs.declared.fault.BankFault.{BankFault}
 use Rattle.std.proofs.lemmas.Result.{err_from_is_err_and}
 use Rattle.ssu_loader.specs.declared.fault.LoadFault.TheVariants as load_fault
-use Rattle.ssu_loader.specs.Replays.{blocks_of}
 use Rattle.ssu_loader.proofs.AnsweringLaws.{both_if_ok}
 use Rattle.ssu_loader.proofs.FreshLaws.{fresh_follows, not_worn, same_err, same_geometry, where_not_worn, worn_bank}
 use Rattle.ssu_loader.proofs.loader.Loader.open.Goals as goal

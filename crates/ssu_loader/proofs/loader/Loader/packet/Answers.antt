@@ -8,10 +8,11 @@ use Rattle.ssu_route.specs.Queries.{after_all, followed, heard_by, listened}
 use Rattle.ssu_route.proofs.Following.{followed_more}
 use Rattle.ssu_route.specs.Windows.{beginnings}
 use Rattle.ssu_loader.specs.Verdicts.{IsSeen}
-use Rattle.ssu_loader.specs.Collecting.{Collects}
-use Rattle.ssu_loader.specs.Leaving.{GoesOn, SectionsLeave}
+use Rattle.ssu_loader.specs.Collecting.{Collects, StopsBefore}
+use Rattle.ssu_loader.specs.Leaving.{GoesOn, IfUnsettled, SectionsLeave}
 use Rattle.ssu_loader.proofs.AnsweringLaws.{none_one}
 use Rattle.ssu_loader.proofs.PacketLaws.{answer_carried, packet_heard}
+use Rattle.ssu_loader.proofs.StoringLaws.{stores_in}
 use Rattle.ssu_loader.proofs.loader.Loader.packet.Goals as goal
 
 pub hear_each-requires : goal.hear_each-requires
@@ -25,8 +26,8 @@ pub returns-clause-follows : goal.returns-clause-follows
 returns-clause-follows g c = λ me ps follows.
     let packet = c.args.packet.now in
     let each = c.feed.ensures.heard (followed me ps) follows.hears in
-    let more = packet_heard me packet ps c.feed.new.each c.pid_in.result c.pid_in.ensures each in
-    none_one c.in_ok-answer.answer _ _ (λ (col : Collects g.S.Stage g.F.Flash me (after_all c.pid_in.result c.feed.new.each (heard_by me ps)) c.hear_each.new.collector c.hear_each.new.flash).
+    let more = packet_heard me packet ps c.feed.new.each c.pid_of.result c.pid_of.ensures each in
+    none_one c.in_ok-answer.answer _ _ (λ (col : Collects g.S.Stage g.F.Flash me (after_all c.pid_of.result c.feed.new.each (heard_by me ps)) c.hear_each.new.collector c.hear_each.new.flash).
     let collects = subst (λ (items : List Heard). Collects g.S.Stage g.F.Flash me items c.hear_each.new.collector c.hear_each.new.flash) more col in
     let pids : c.listens-pids.result.items ≡ listened me (heard_by me (packet ∷ ps)) = c.listens-pids.ensures me (heard_by me (packet ∷ ps)) collects.stands in
     let hears = c.listen.ensures.stands (Feed packet ∷ followed me ps) (c.feed.ensures.stands (followed me ps) follows.hears) in
@@ -41,7 +42,7 @@ pub returns-clause-goes_on : goal.returns-clause-goes_on
 returns-clause-goes_on g c = λ tells me ps follows.
     let packet = c.args.packet.now in
     let each = c.feed.ensures.heard (followed me ps) follows.hears in
-    let more = packet_heard me packet ps c.feed.new.each c.pid_in.result c.pid_in.ensures each in
+    let more = packet_heard me packet ps c.feed.new.each c.pid_of.result c.pid_of.ensures each in
     let f = g.F.Flash in
     subst (λ (items : List Heard). GoesOn me items c.args.self.now.collector.bank (f.contents c.args.flash.now) (f.contents c.hear_each.new.flash) c.in_ok-answer.answer) more
     (c.in_ok-answer.ensures.goes_on tells me (heard_by me ps) follows.collects)
@@ -50,7 +51,7 @@ pub returns-in_err-answer-clause-held : goal.returns-in_err-answer-clause-held
 returns-in_err-answer-clause-held g c = λ tells me ps follows.
     let packet = c.args.packet.now in
     let each = c.feed.ensures.heard (followed me ps) follows.hears in
-    let more = packet_heard me packet ps c.feed.new.each c.pid_in.result c.pid_in.ensures each in
+    let more = packet_heard me packet ps c.feed.new.each c.pid_of.result c.pid_of.ensures each in
     let f = g.F.Flash in
     subst (λ (items : List Heard). SectionsLeave me items c.args.self.now.collector.bank (f.contents c.args.flash.now) (f.contents c.hear_each.new.flash)) more
     (c.hear_each.ensures.held tells me (heard_by me ps) follows.collects)
@@ -59,7 +60,7 @@ pub returns-in_err-answer-clause-left : goal.returns-in_err-answer-clause-left
 returns-in_err-answer-clause-left g c = λ tells me ps follows.
     let packet = c.args.packet.now in
     let each = c.feed.ensures.heard (followed me ps) follows.hears in
-    let more = packet_heard me packet ps c.feed.new.each c.pid_in.result c.pid_in.ensures each in
+    let more = packet_heard me packet ps c.feed.new.each c.pid_of.result c.pid_of.ensures each in
     let f = g.F.Flash in
     subst (λ (items : List Heard). LeavesOnly f.moment f.left_since c.args.flash.now c.hear_each.new.flash (SectionsLeave me items c.args.self.now.collector.bank (f.contents c.args.flash.now))) more
     (c.hear_each.ensures.left tells me (heard_by me ps) follows.collects)
@@ -68,7 +69,7 @@ pub returns-clause-held : goal.returns-clause-held
 returns-clause-held g c = λ tells me ps follows.
     let packet = c.args.packet.now in
     let each = c.feed.ensures.heard (followed me ps) follows.hears in
-    let more = packet_heard me packet ps c.feed.new.each c.pid_in.result c.pid_in.ensures each in
+    let more = packet_heard me packet ps c.feed.new.each c.pid_of.result c.pid_of.ensures each in
     let f = g.F.Flash in
     subst (λ (items : List Heard). SectionsLeave me items c.args.self.now.collector.bank (f.contents c.args.flash.now) (f.contents c.hear_each.new.flash)) more
     (c.hear_each.ensures.held tells me (heard_by me ps) follows.collects)
@@ -77,7 +78,7 @@ pub returns-clause-left : goal.returns-clause-left
 returns-clause-left g c = λ tells me ps follows.
     let packet = c.args.packet.now in
     let each = c.feed.ensures.heard (followed me ps) follows.hears in
-    let more = packet_heard me packet ps c.feed.new.each c.pid_in.result c.pid_in.ensures each in
+    let more = packet_heard me packet ps c.feed.new.each c.pid_of.result c.pid_of.ensures each in
     let f = g.F.Flash in
     subst (λ (items : List Heard). LeavesOnly f.moment f.left_since c.args.flash.now c.hear_each.new.flash (SectionsLeave me items c.args.self.now.collector.bank (f.contents c.args.flash.now))) more
     (c.hear_each.ensures.left tells me (heard_by me ps) follows.collects)
@@ -86,21 +87,21 @@ pub returns-clause-seen : goal.returns-clause-seen
 returns-clause-seen g c = λ me ps follows.
     let packet = c.args.packet.now in
     let each = c.feed.ensures.heard (followed me ps) follows.hears in
-    let more = packet_heard me packet ps c.feed.new.each c.pid_in.result c.pid_in.ensures each in
+    let more = packet_heard me packet ps c.feed.new.each c.pid_of.result c.pid_of.ensures each in
     subst (λ (items : List Heard). IsSeen me items c.in_ok-answer.answer) more (c.in_ok-answer.ensures.seen me (heard_by me ps) follows.collects)
 
 pub returns-in_err-answer-clause-untouched : goal.returns-in_err-answer-clause-untouched
 returns-in_err-answer-clause-untouched g c = λ me ps follows none.
     let packet = c.args.packet.now in
     let each = c.feed.ensures.heard (followed me ps) follows.hears in
-    let more = packet_heard me packet ps c.feed.new.each c.pid_in.result c.pid_in.ensures each in
+    let more = packet_heard me packet ps c.feed.new.each c.pid_of.result c.pid_of.ensures each in
     c.hear_each.ensures.untouched me (heard_by me ps) follows.collects (ap (beginnings me) more ∙ none)
 
 pub returns-clause-untouched : goal.returns-clause-untouched
 returns-clause-untouched g c = λ me ps follows none.
     let packet = c.args.packet.now in
     let each = c.feed.ensures.heard (followed me ps) follows.hears in
-    let more = packet_heard me packet ps c.feed.new.each c.pid_in.result c.pid_in.ensures each in
+    let more = packet_heard me packet ps c.feed.new.each c.pid_of.result c.pid_of.ensures each in
     c.hear_each.ensures.untouched me (heard_by me ps) follows.collects (ap (beginnings me) more ∙ none)
 
 pub returns-in_err-answer-clause-carried : goal.returns-in_err-answer-clause-carried
@@ -110,7 +111,7 @@ pub returns-clause-carried : goal.returns-clause-carried
 returns-clause-carried g c = λ tells me ps chosen image follows reached unfailed.
     let packet = c.args.packet.now in
     let each = c.feed.ensures.heard (followed me ps) follows.hears in
-    let more = packet_heard me packet ps c.feed.new.each c.pid_in.result c.pid_in.ensures each in
+    let more = packet_heard me packet ps c.feed.new.each c.pid_of.result c.pid_of.ensures each in
     let f = g.F.Flash in
     let bank = c.args.self.now.collector.bank in
     let x = f.contents c.args.flash.now in
@@ -120,3 +121,18 @@ returns-clause-carried g c = λ tells me ps chosen image follows reached unfaile
     (answer_carried me heard bank x y chosen image c.in_ok-answer.answer reached
     (subst (λ (items : List Heard). IsSeen me items c.in_ok-answer.answer) more (c.in_ok-answer.ensures.seen me (heard_by me ps) follows.collects))
     (subst (λ (items : List Heard). GoesOn me items bank x y c.in_ok-answer.answer) more (c.in_ok-answer.ensures.goes_on tells me (heard_by me ps) follows.collects)))
+
+pub returns-clause-too_many : goal.returns-clause-too_many
+returns-clause-too_many g c = λ me ps follows.
+    let packet = c.args.packet.now in
+    let each = c.feed.ensures.heard (followed me ps) follows.hears in
+    let more = packet_heard me packet ps c.feed.new.each c.pid_of.result c.pid_of.ensures each in
+    subst (λ (items : List Heard). IfUnsettled c.in_ok-answer.answer (StopsBefore g.S.Stage g.F.Flash me items c.hear_each.new.flash)) more
+    (c.in_ok-answer.ensures.too_many me (heard_by me ps) follows.collects)
+
+pub returns-clause-stored : goal.returns-clause-stored
+returns-clause-stored g c = λ in_bank tells me ps follows.
+    let heard = heard_by me (c.args.packet.now ∷ ps) in
+    none_one c.in_ok-answer.answer _ _
+    (λ own. stores_in g.S.Stage g.F.Flash g.met.S.Stage.in_bank in_bank tells me heard c.hear_each.new.collector c.hear_each.new.flash own.collects)
+    (returns-clause-follows g c me ps follows)

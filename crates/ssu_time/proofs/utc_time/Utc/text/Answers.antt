@@ -1,8 +1,10 @@
 use Rattle.std.proofs.Common.{◌/◌, ◌%◌, arith}
+use Rattle.ssu_time.specs.TimeText.{time_text}
+use Rattle.ssu_time.proofs.TimeTextLemmas.{text_of_time}
 use Rattle.ssu_time.proofs.utc_time.Utc.text.Goals as goal
 
-pub returns : goal.returns
-returns c = record {
+pub returns-clause-is : goal.returns-clause-is
+returns-clause-is c = record {
   year = c.date_of-year.result.0;
   month = c.date_of-year.result.1;
   day = c.date_of-year.result.2;
@@ -18,3 +20,7 @@ returns c = record {
   on_day = c.date_of-year.ensures.day;
   in_day = omega arith;
 }
+
+pub returns-clause-value : goal.returns-clause-value
+unfolding time_text
+returns-clause-value c = text_of_time (returns-clause-is c)

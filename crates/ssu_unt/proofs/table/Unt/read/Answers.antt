@@ -1,5 +1,5 @@
-use Rattle.wire.specs.Laws.{whole_found, whole_only}
-use Rattle.ssu_unt.specs.Exact.{unt_exact}
+use Rattle.wire.proofs.Laws.{whole_found, whole_only}
+use Rattle.ssu_unt.proofs.Exact.{unt_exact}
 use Rattle.ssu_unt.proofs.table.Unt.read.Goals as goal
 
 pub returns-clause-found : goal.returns-clause-found

@@ -1,6 +1,6 @@
 use Rattle.std.proofs.Common.{◌≡◌, Option, Some, None, sym, ap, ◌∙◌}
 use Rattle.std.specs.Option.{option_map}
-use Rattle.dsmcc_msg.specs.declared.block.Ddb.{Ddb}
+use Rattle.dsmcc_msg.specs.declared.ddb.Ddb.{Ddb}
 use Rattle.dsmcc_msg.specs.Block.{DdbFields, ddb}
 use Rattle.dsmcc_msg.specs.View.{ddb_view}
 use Rattle.ssu_group.specs.Place.{place_of}

@@ -12,7 +12,7 @@ use Rattle.ts_section.proofs.hearer.Hearer.feed.Goals as goal
 pub returns-in_default-clause-stands : goal.returns-in_default-clause-stands
 returns-in_default-clause-stands c events stands =
     let packet = c.args.packet.now in
-    let gone : is_among (pid_of packet) c.args.self.now.pids.items ≡ false = rw (← c.pid_in.ensures) c.in_default.ensures.among in
+    let gone : is_among (pid_of packet) c.args.self.now.pids.items ≡ false = rw (← (c.get.ensures.number ∙ c.pid_of.ensures)) c.in_default.ensures.among in
     record {
       listens = λ pid. is_listened-feed pid packet events ∙ stands.listens pid;
       streams = unchanged c.args.self.now.pids.items c.args.self.now.streams.items events packet stands.listens stands.streams
@@ -22,7 +22,7 @@ returns-in_default-clause-stands c events stands =
 pub returns-in_default-clause-heard : goal.returns-in_default-clause-heard
 returns-in_default-clause-heard c events stands =
     let packet = c.args.packet.now in
-    let gone : is_among (pid_of packet) c.args.self.now.pids.items ≡ false = rw (← c.pid_in.ensures) c.in_default.ensures.among in
+    let gone : is_among (pid_of packet) c.args.self.now.pids.items ≡ false = rw (← (c.get.ensures.number ∙ c.pid_of.ensures)) c.in_default.ensures.among in
     c.clear.ensures ∙ sym (heard-unlistened packet events (stands.listens (pid_of packet) ∙ gone))
 
 pub returns-in_default-read-clause-stands : goal.returns-in_default-read-clause-stands
@@ -46,7 +46,7 @@ returns-clause-stands c events stands =
     let pids = c.args.self.now.pids.items in
     let old = c.index_mut-stream.result.now in
     let carried : usable packet ≡ Some y = sym c.in-Some-read.ensures.view in
-    let own : IsFirst pids y.pid c.in-Some.at = rw (usable-pid packet y carried ∙ sym c.pid_in.ensures) c.in-Some.ensures.found in
+    let own : IsFirst pids y.pid c.in-Some.at = rw (usable-pid packet y carried ∙ sym (c.get.ensures.number ∙ c.pid_of.ensures)) c.in-Some.ensures.found in
     let within : c.in-Some.at < length c.args.self.now.streams.items = omega (arith, c.args.self.now.streams.ok, c.in-Some.ensures.within) in
     let follows : Follows old (span y.pid events) = rw c.index_mut-stream.ensures.value (stands.streams y.pid c.in-Some.at old own) in
     record {
@@ -62,7 +62,7 @@ returns-clause-heard c events stands =
     let pids = c.args.self.now.pids.items in
     let old = c.index_mut-stream.result.now in
     let carried : usable packet ≡ Some y = sym c.in-Some-read.ensures.view in
-    let own : IsFirst pids y.pid c.in-Some.at = rw (usable-pid packet y carried ∙ sym c.pid_in.ensures) c.in-Some.ensures.found in
+    let own : IsFirst pids y.pid c.in-Some.at = rw (usable-pid packet y carried ∙ sym (c.get.ensures.number ∙ c.pid_of.ensures)) c.in-Some.ensures.found in
     let follows : Follows old (span y.pid events) = rw c.index_mut-stream.ensures.value (stands.streams y.pid c.in-Some.at old own) in
     c.take.ensures.heard
     ∙ follows_heard old (span y.pid events) y follows

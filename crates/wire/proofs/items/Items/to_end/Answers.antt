@@ -1,5 +1,5 @@
 use Rattle.std.proofs.Common.{sym}
-use Rattle.wire.specs.Items.{shorter}
+use Rattle.wire.proofs.ItemLaws.{shorter}
 use Rattle.wire.proofs.Rows.{walk_start, walk_next, walk_end, walk_breaks}
 use Rattle.wire.proofs.items.Items.to_end.Goals as goal
 

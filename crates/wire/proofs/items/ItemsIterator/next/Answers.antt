@@ -1,5 +1,5 @@
 use Rattle.std.proofs.Common.{rules}
-use Rattle.wire.specs.Items.{items_none, items_next}
+use Rattle.wire.proofs.ItemLaws.{items_none, items_next}
 use Rattle.wire.proofs.items.ItemsIterator.next.Goals as goal
 
 pub returns-in_err-item-clause-steps : goal.returns-in_err-item-clause-steps

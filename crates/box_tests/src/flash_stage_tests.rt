@@ -1,0 +1,304 @@
+//! A group of two modules over a flash in memory, staged through the trait.
+
+ghost use Rattle.std.specs.Prelude.{◌≡◌, OnOk};
+ghost use Rattle.flash_bank.specs.Bank.{IsLent};
+ghost use Rattle.flash_stage.specs.Leaving.{SameBank};
+ghost use Rattle.flash_stage.specs.Outline.{outline_of};
+ghost use Rattle.ssu_group.specs.Map.{missing_below};
+
+use arrayvec::ArrayVec;
+use dsmcc_msg::{Ddb, Dii, DiiWriter};
+use flash_bank::{Bank, FlashFault, Record, boot, format};
+use flash_dev::{Flash, MemFlash, Tear};
+use flash_stage::{BankStage, RamStage, Stage};
+use ssu_compat::SwId;
+use ssu_group::GroupPlan;
+use ssu_io::MemSink;
+use std::alloc::Global;
+use std::test::Fail;
+
+const OLD: SwId = SwId {
+    model: 1,
+    version: 1,
+};
+
+const NEW: SwId = SwId {
+    model: 1,
+    version: 2,
+};
+
+/// A block of a module.
+#[derive(Clone, Copy)]
+struct Block {
+    module: u16,
+    number: u16,
+    bytes: &'static [u8],
+}
+
+fn block_of(module: u16, number: u16, bytes: &'static [u8]) -> Block {
+    Block {
+        module,
+        number,
+        bytes,
+    }
+}
+
+/// A plan in blocks of four bytes: module 1 of five bytes, module 2 of three.
+fn plan(alloc: Global) -> Result<GroupPlan, Fail> {
+    let mut writer = DiiWriter::new(alloc, 2, 2, 4)?;
+    writer.module(1, 5, 0, &[])?;
+    writer.module(2, 3, 0, &[])?;
+    let section = writer.finish().ok().ok_or("memory")?;
+    let dii = Dii::read(&section).ok_or("no DII")?;
+    match GroupPlan::of(&dii, 512) {
+        Ok(plan) => Ok(plan),
+        Err(_) => Err("it can be used".into()),
+    }
+}
+
+/// Stages the block, if it fills a place.
+fn offer<S: Stage, F: Flash>(
+    stage: &mut S,
+    bank: &mut Bank,
+    flash: &mut F,
+    plan: &GroupPlan,
+    block: Block,
+) -> Result<(), FlashFault>
+    requires lent { IsLent F.tells F.contents F.block_count F.block_len bank.old flash.old }
+    requires ready { S.ready stage.old bank.old }
+    requires agrees { F.tells → S.agrees stage.old bank.old (F.contents flash.old) }
+    requires plan { S.plan_of stage.old ≡ outline_of plan.now }
+    ensures lent { OnOk result (IsLent F.tells F.contents F.block_count F.block_len bank.new flash.new) }
+    ensures ready { OnOk result (S.ready stage.new bank.new) }
+    ensures agrees { F.tells → OnOk result (S.agrees stage.new bank.new (F.contents flash.new)) }
+    ensures plan { S.plan_of stage.new ≡ outline_of plan.now }
+    ensures same_bank { SameBank bank.old bank.new }
+{
+    let ddb = Ddb {
+        download: 2,
+        module: block.module,
+        version: 0,
+        block: block.number,
+        bytes: block.bytes,
+    };
+    match plan.place(&ddb) {
+        Some(place) => stage.offer(bank, flash, place, block.bytes),
+        None => Ok(()),
+    }
+}
+
+/// Stages blocks in this order.
+fn offer_all<S: Stage, F: Flash>(
+    stage: &mut S,
+    bank: &mut Bank,
+    flash: &mut F,
+    plan: &GroupPlan,
+    blocks: &[Block],
+) -> Result<(), FlashFault>
+    requires lent { IsLent F.tells F.contents F.block_count F.block_len bank.old flash.old }
+    requires ready { S.ready stage.old bank.old }
+    requires agrees { F.tells → S.agrees stage.old bank.old (F.contents flash.old) }
+    requires plan { S.plan_of stage.old ≡ outline_of plan.now }
+    ensures lent { OnOk result (IsLent F.tells F.contents F.block_count F.block_len bank.new flash.new) }
+    ensures ready { OnOk result (S.ready stage.new bank.new) }
+    ensures agrees { F.tells → OnOk result (S.agrees stage.new bank.new (F.contents flash.new)) }
+    ensures plan { S.plan_of stage.new ≡ outline_of plan.now }
+    ensures same_bank { SameBank bank.old bank.new }
+{
+    for block in blocks {
+        offer(stage, bank, flash, plan, *block)?;
+    }
+    Ok(())
+}
+
+/// The CRC of each module of a group that is whole.
+fn module_crcs<S: Stage, F: Flash>(
+    stage: &mut S,
+    bank: &mut Bank,
+    flash: &mut F,
+    plan: &GroupPlan,
+    crcs: &mut ArrayVec<u32, 512>,
+) -> Result<(), FlashFault>
+    requires lent { IsLent F.tells F.contents F.block_count F.block_len bank.old flash.old }
+    requires ready { S.ready stage.old bank.old }
+    requires agrees { F.tells → S.agrees stage.old bank.old (F.contents flash.old) }
+    requires plan { S.plan_of stage.old ≡ outline_of plan.now }
+    requires whole { missing_below (S.has stage.old) plan.now.places ≡ 0 }
+    ensures lent { OnOk result (IsLent F.tells F.contents F.block_count F.block_len bank.new flash.new) }
+    ensures ready { OnOk result (S.ready stage.new bank.new) }
+    ensures agrees { F.tells → OnOk result (S.agrees stage.new bank.new (F.contents flash.new)) }
+    ensures plan { S.plan_of stage.new ≡ outline_of plan.now }
+    ensures whole { missing_below (S.has stage.new) plan.now.places ≡ 0 }
+    ensures same_bank { SameBank bank.old bank.new }
+{
+    for module in plan.modules.as_slice() {
+        let crc = stage.module_crc(bank, flash, module)?;
+        let _ = crcs.try_push(crc);
+    }
+    Ok(())
+}
+
+/// Stages these blocks, and installs the group if it is whole. The answer is how many places are missing; whatever fails
+/// is a fault.
+fn install<S: Stage, F: Flash>(
+    alloc: Global,
+    flash: &mut F,
+    plan: &GroupPlan,
+    blocks: &[Block],
+    crcs: &mut ArrayVec<u32, 512>,
+) -> Result<u32, FlashFault> {
+    let mut bank = Bank::open(flash).map_err(|_| FlashFault)?;
+    if plan.total > bank.bank_len() {
+        return Err(FlashFault);
+    }
+    let mut stage = S::make(alloc, &bank).map_err(|_| FlashFault)?;
+    stage.start(&mut bank, flash, plan)?;
+    offer_all(&mut stage, &mut bank, flash, plan, blocks)?;
+    let missing = stage.missing();
+    if missing != 0 {
+        return Ok(missing);
+    }
+    module_crcs(&mut stage, &mut bank, flash, plan, crcs)?;
+    stage.finish(&mut bank, flash, NEW, 7)?;
+    Ok(0)
+}
+
+/// Six blocks of 256 bytes, formatted with the text `old`.
+fn formatted(alloc: Global) -> Result<MemFlash, Fail> {
+    let mut flash = MemFlash::blank(alloc, 6, 256, 64)?;
+    format(&mut flash, b"old", OLD)?;
+    Ok(flash)
+}
+
+/// What boot takes of this flash, once it has power again.
+fn booted(alloc: Global, flash: &MemFlash) -> Result<(Record, Vec<u8>), Fail> {
+    let held = flash.contents();
+    if held.len() != 1536 {
+        return Err("six blocks of 256 bytes".into());
+    }
+    let mut flash = MemFlash::holding(alloc, held, 256, 64)?;
+    let mut sink = MemSink::new(alloc, Vec::new(alloc));
+    let head = boot(&mut flash, &mut sink)?;
+    Ok((head, sink.into_bytes()))
+}
+
+/// The blocks out of order, one of them twice, and two that fill no place.
+fn blocks() -> [Block; 6] {
+    [
+        block_of(2, 0, b"678"),
+        block_of(1, 1, b"5"),
+        block_of(1, 1, b"x"),
+        block_of(1, 2, b"x"),
+        block_of(1, 0, b"123"),
+        block_of(1, 0, b"1234"),
+    ]
+}
+
+#[test]
+fn places_come_in_any_order_and_become_the_image(rt: HostRuntime) -> Result<(), Fail> {
+    let plan = plan(rt.alloc())?;
+    let mut flash = formatted(rt.alloc())?;
+    let mut crcs = ArrayVec::new();
+    let missing = install::<RamStage, MemFlash>(
+        rt.alloc(),
+        &mut flash,
+        &plan,
+        &blocks(),
+        &mut crcs,
+    )?;
+    assert_eq!(rt; missing, 0);
+    let stated = [ts_crc::crc(b"12345"), ts_crc::crc(b"678")];
+    assert_eq!(rt; crcs.as_slice(), stated.as_slice());
+    let (head, image) = booted(rt.alloc(), &flash)?;
+    let stated = Record {
+        number: 2,
+        bank: 1,
+        length: 8,
+        software: NEW,
+        group: 7,
+    };
+    assert_eq!(rt; head, stated);
+    assert_eq!(rt; image.as_slice(), b"12345678".as_slice());
+    Ok(())
+}
+
+#[test]
+fn places_become_the_image_in_the_bank_too(rt: HostRuntime) -> Result<(), Fail> {
+    let plan = plan(rt.alloc())?;
+    let mut flash = formatted(rt.alloc())?;
+    let mut crcs = ArrayVec::new();
+    let missing = install::<BankStage, MemFlash>(
+        rt.alloc(),
+        &mut flash,
+        &plan,
+        &blocks()[..5],
+        &mut crcs,
+    )?;
+    assert_eq!(rt; missing, 1);
+    // The spare bank has the places that were staged, and boot takes what it took.
+    let held = flash.contents().get(1024..1032).ok_or("a bank")?;
+    assert_eq!(rt;
+        held,
+        [255, 255, 255, 255, b'5', b'6', b'7', b'8'].as_slice()
+    );
+    let (head, image) = booted(rt.alloc(), &flash)?;
+    assert_eq!(rt; head.number, 1);
+    assert_eq!(rt; image.as_slice(), b"old".as_slice());
+
+    let missing = install::<BankStage, MemFlash>(
+        rt.alloc(),
+        &mut flash,
+        &plan,
+        &blocks(),
+        &mut crcs,
+    )?;
+    assert_eq!(rt; missing, 0);
+    let stated = [ts_crc::crc(b"12345"), ts_crc::crc(b"678")];
+    assert_eq!(rt; crcs.as_slice(), stated.as_slice());
+    let (head, image) = booted(rt.alloc(), &flash)?;
+    assert_eq!(rt; (head.number, head.bank, head.length), (2, 1, 8));
+    assert_eq!(rt; image.as_slice(), b"12345678".as_slice());
+    Ok(())
+}
+
+#[test]
+fn without_the_last_block_boot_takes_what_it_took(rt: HostRuntime) -> Result<(), Fail> {
+    let plan = plan(rt.alloc())?;
+    let mut flash = formatted(rt.alloc())?;
+    let mut crcs = ArrayVec::new();
+    let missing = install::<RamStage, MemFlash>(
+        rt.alloc(),
+        &mut flash,
+        &plan,
+        &blocks()[..5],
+        &mut crcs,
+    )?;
+    assert_eq!(rt; missing, 1);
+    let (head, image) = booted(rt.alloc(), &flash)?;
+    assert_eq!(rt; head.number, 1);
+    assert_eq!(rt; image.as_slice(), b"old".as_slice());
+    Ok(())
+}
+
+#[test]
+fn a_stop_before_the_record_is_whole_keeps_the_old_image(rt: HostRuntime) -> Result<(), Fail> {
+    let plan = plan(rt.alloc())?;
+    // after the six calls of `format`: the spare record block, two bank blocks, the image and the record
+    for call in 7..=11u32 {
+        let mut flash = formatted(rt.alloc())?;
+        flash.stop_at(call, Tear::Front(3));
+        let mut crcs = ArrayVec::new();
+        let answer = install::<RamStage, MemFlash>(
+            rt.alloc(),
+            &mut flash,
+            &plan,
+            &blocks(),
+            &mut crcs,
+        );
+        assert_eq!(rt; answer, Err(FlashFault), "call {call}");
+        let (head, image) = booted(rt.alloc(), &flash)?;
+        assert_eq!(rt; head.number, 1, "call {call}");
+        assert_eq!(rt; image.as_slice(), b"old".as_slice(), "call {call}");
+    }
+    Ok(())
+}

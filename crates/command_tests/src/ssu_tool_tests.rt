@@ -1,0 +1,512 @@
+//! Whole commands over files in memory: the status, what is put, and what the flash holds.
+
+use flash_dev::{Flash, SureFlash};
+use ssu_io::{MemShelf, MemSink, MemSource};
+use ssu_status::Status;
+use ssu_tool::run;
+use std::alloc::{AllocError, Global};
+use std::test::Fail;
+use ts_crc::crc;
+use ts_packet::Pid;
+use ts_section::{LongForm, cut, long_section};
+
+/// A packet of PID 20 with one TDT section.
+const TDT_PACKET: [u8; 13] = [
+    0x47, 0x40, 0x14, 0x10, 0x00, 0x70, 0x70, 0x05, 0xC0, 0x79, 0x12, 0x45, 0x00,
+];
+
+/// A packet of PID 0 with the PAT that FFmpeg writes for one service on PID 4096.
+const PAT_PACKET: [u8; 21] = [
+    0x47, 0x40, 0x00, 0x10, 0x00, 0x00, 0xB0, 0x0D, 0x00, 0x01, 0xC1, 0x00, 0x00, 0x00, 0x01, 0xF0,
+    0x00, 0x2A, 0xB1, 0x04, 0xB2,
+];
+
+#[derive(Drop)]
+struct Outcome {
+    status: Status,
+    put: Vec<u8>,
+    made: Vec<u8>,
+}
+
+fn owned(alloc: Global, words: &[&str]) -> Result<Vec<String>, AllocError> {
+    let mut list = Vec::new(alloc);
+    for word in words {
+        list.push(String::from_str(alloc, word)?)?;
+    }
+    Ok(list)
+}
+
+/// The bytes, filled up to a packet.
+fn add_packet(bytes: &mut Vec<u8>, front: &[u8]) -> Result<(), AllocError> {
+    bytes.extend_from_slice(front)?;
+    for _ in front.len()..188 {
+        bytes.push(0xFF)?;
+    }
+    Ok(())
+}
+
+fn outcome_of(
+    alloc: Global,
+    words: &[&str],
+    air: Vec<u8>,
+    fails: &[u32],
+    sink_fails: &[u32],
+) -> Result<Outcome, AllocError> {
+    let mut shelf = MemShelf::new(alloc, Vec::new(alloc));
+    let mut flash = SureFlash::blank(alloc, 4, 256).map_err(|_| AllocError)?;
+    let words = owned(alloc, words)?;
+    let mut air = MemSource::new(air, 1000, fails.to_vec(alloc)?);
+    let mut made = MemSink::new(alloc, Vec::new(alloc));
+    let mut out = MemSink::new(alloc, sink_fails.to_vec(alloc)?);
+    let status = run(
+        alloc, &words, &mut shelf, &mut air, &mut flash, &mut made, &mut out,
+    );
+    Ok(Outcome {
+        status,
+        put: out.into_bytes(),
+        made: made.into_bytes(),
+    })
+}
+
+/// A command over the files of a shelf and a flash.
+fn outcome_on<F: Flash>(
+    alloc: Global,
+    words: &[&str],
+    shelf: &mut MemShelf,
+    air: Vec<u8>,
+    flash: &mut F,
+) -> Result<Outcome, AllocError> {
+    let words = owned(alloc, words)?;
+    let mut air = MemSource::new(air, 65_536, Vec::new(alloc));
+    let mut made = MemSink::new(alloc, Vec::new(alloc));
+    let mut out = MemSink::new(alloc, Vec::new(alloc));
+    let status = run(alloc, &words, shelf, &mut air, flash, &mut made, &mut out);
+    Ok(Outcome {
+        status,
+        put: out.into_bytes(),
+        made: made.into_bytes(),
+    })
+}
+
+#[test]
+fn hear_puts_the_sections_of_its_pid(rt: HostRuntime) -> Result<(), Fail> {
+    let alloc = rt.alloc();
+    let mut air = Vec::new(alloc);
+    add_packet(&mut air, &TDT_PACKET)?;
+    add_packet(&mut air, &PAT_PACKET)?;
+    air.extend_from_slice(&[0x47; 100])?;
+    // words, what is put
+    let rows: [(&str, &[u8]); 3] = [
+        ("20", &TDT_PACKET[5..]),
+        ("0", &PAT_PACKET[5..]),
+        ("21", &[]),
+    ];
+    for (pid, put) in rows {
+        let outcome = outcome_of(alloc, &["folder", "hear", pid], air.clone()?, &[], &[])?;
+        assert_eq!(rt; outcome.status, Status::Done, "hear {pid}");
+        assert_eq!(rt; outcome.put.as_slice(), put, "hear {pid}");
+        assert!(rt; outcome.made.is_empty());
+    }
+    let outcome = outcome_of(alloc, &["folder", "hear", "0"], Vec::new(alloc), &[], &[])?;
+    assert_eq!(rt; outcome.status, Status::Done);
+    assert!(rt; outcome.put.is_empty());
+    Ok(())
+}
+
+#[test]
+fn faults_are_told_from_each_other(rt: HostRuntime) -> Result<(), Fail> {
+    let alloc = rt.alloc();
+    let mut air = Vec::new(alloc);
+    add_packet(&mut air, &TDT_PACKET)?;
+    // words, failing calls of the source and of the output, status, how many bytes are put
+    let rows: [(&[&str], &[u32], &[u32], Status, usize); 6] = [
+        (&[], &[], &[], Status::Usage, 0),
+        (&["folder", "hear", "8192"], &[], &[], Status::Usage, 0),
+        (&["folder", "hear", "007"], &[1], &[], Status::Usage, 0),
+        (&["folder", "hear", "0"], &[2], &[], Status::ReadFault, 0),
+        (&["folder", "hear", "20"], &[2], &[], Status::ReadFault, 8),
+        (&["folder", "hear", "20"], &[], &[1], Status::WriteFault, 0),
+    ];
+    for (words, fails, sink_fails, status, put) in rows {
+        let outcome = outcome_of(alloc, words, air.clone()?, fails, sink_fails)?;
+        assert_eq!(rt; outcome.status, status);
+        assert_eq!(rt; outcome.put.len(), put);
+    }
+    Ok(())
+}
+
+#[test]
+fn random_bytes_and_unusable_packets_are_passed_over(rt: HostRuntime) -> Result<(), Fail> {
+    let alloc = rt.alloc();
+    let mut air = Vec::new(alloc);
+    let mut seed = 1u32;
+    for _ in 0..40 * 188usize {
+        seed = seed.wrapping_mul(1_664_525).wrapping_add(1_013_904_223);
+        air.push(seed.to_be_bytes()[0] & 0xB8)?;
+    }
+    // Places and values of the header that make the packet unusable.
+    let broken = [
+        (0usize, 0x46u8),
+        (1, 0xC0),
+        (3, 0x50),
+        (3, 0x00),
+        (3, 0x20),
+        (4, 0xB7),
+    ];
+    for (place, value) in broken {
+        let mut packet = TDT_PACKET;
+        packet[place] = value;
+        add_packet(&mut air, &packet)?;
+    }
+    add_packet(&mut air, &TDT_PACKET)?;
+    let outcome = outcome_of(alloc, &["folder", "hear", "20"], air, &[], &[])?;
+    assert_eq!(rt; outcome.status, Status::Done);
+    assert_eq!(rt; outcome.put.as_slice(), &TDT_PACKET[5..]);
+    Ok(())
+}
+
+#[test]
+fn a_pat_is_heard_unless_a_bit_of_it_changed(rt: HostRuntime) -> Result<(), Fail> {
+    let alloc = rt.alloc();
+    let head = LongForm {
+        table: 0x00,
+        extension: 1,
+        version: 0,
+        number: 0,
+        last: 0,
+        body: &[0x00, 0x03, 0xE1, 0x00],
+    };
+    let section = long_section(alloc, head, false)?;
+    assert_eq!(rt; section.len(), 16);
+    assert_eq!(rt; section[0], 0x00);
+    let mut air = Vec::new(alloc);
+    let _counter = cut(&section, Pid::new(0).ok_or("a PID")?, 0, &mut air)?;
+    let heard = outcome_of(alloc, &["folder", "hear", "0"], air.clone()?, &[], &[])?;
+    assert_eq!(rt; heard.status, Status::Done);
+    assert_eq!(rt; heard.put.as_slice(), section.as_slice());
+    for place in 5..21usize {
+        let mut changed = air.clone()?;
+        assert_eq!(rt; changed.len(), 188);
+        changed[place] ^= 0x10;
+        let heard = outcome_of(alloc, &["folder", "hear", "0"], changed, &[], &[])?;
+        assert_eq!(rt; heard.status, Status::Done);
+        assert!(rt; heard.put.is_empty(), "place {place}");
+    }
+    Ok(())
+}
+
+const BOX: &str = "oui = 4660
+model = 7
+version = 1
+rule = \"newer\"
+software_model = 1
+software_version = 1
+";
+
+const PLAN: &str = "ts = 1
+network = 2
+service = 3
+oui = 4660
+time = \"2024-03-01T02:00:00\"
+pmt_pid = 256
+data_pid = 258
+turns = 40
+[[group]]
+model = 7
+version = 1
+software_model = 1
+software_version = 2
+modules = [\"a.bin\"]
+";
+
+const FOUND: &str = "1 services 1
+2 program 3 pid 256
+3 component 258 type 1
+4 direct
+5 carousel 258
+6 groups 1
+7 modules 1 bytes 9
+";
+
+fn shelf_with(alloc: Global, plan: &str) -> Result<MemShelf, Fail> {
+    let mut shelf = MemShelf::new(alloc, Vec::new(alloc));
+    for (name, text) in [
+        ("box.toml", BOX),
+        ("plan.toml", plan),
+        ("a.bin", "123456789"),
+    ] {
+        shelf.add(name, text.as_bytes().to_vec(alloc)?)?;
+    }
+    Ok(shelf)
+}
+
+#[test]
+fn a_built_stream_is_found_and_loaded(rt: HostRuntime) -> Result<(), Fail> {
+    let alloc = rt.alloc();
+    let mut shelf = shelf_with(alloc, PLAN)?;
+    let mut flash = SureFlash::blank(alloc, 4, 256)?;
+    let none = Vec::new(alloc);
+    let built = outcome_on(alloc, &["folder", "build"], &mut shelf, none, &mut flash)?;
+    assert_eq!(rt; built.status, Status::Done);
+    assert_eq!(rt; built.put.as_slice(), "sections 7 packets 40\n".as_bytes());
+    assert_eq!(rt; built.made.len(), 40 * 188usize);
+    let air = built.made.clone()?;
+    let found = outcome_on(alloc, &["folder", "find"], &mut shelf, air, &mut flash)?;
+    assert_eq!(rt; found.status, Status::Done);
+    assert_eq!(rt; found.put.as_slice(), FOUND.as_bytes());
+    let words = ["folder", "load", "258"];
+    let loaded = outcome_on(alloc, &words, &mut shelf, built.made, &mut flash)?;
+    assert_eq!(rt; loaded.status, Status::Done);
+    assert_eq!(rt;
+        loaded.put.as_slice(),
+        "loaded group 2147483650 bytes 9\n".as_bytes()
+    );
+    assert_eq!(rt; loaded.made.as_slice(), "123456789".as_bytes());
+    Ok(())
+}
+
+/// The packets of the plan's first seven turns: NIT, PAT, TDT, PMT, DSI, DII and DDB.
+const FIRST_LEN: usize = 7 * 188;
+
+/// Where the section of the DII begins, and the CRC of its module; where the CRC of the section begins, and where it ends.
+const DII_AT: usize = 5 * 188 + 5;
+
+const MODULE_CRC_AT: usize = DII_AT + 50;
+
+const SECTION_CRC_AT: usize = DII_AT + 56;
+
+const DII_END: usize = DII_AT + 60;
+
+/// The same packets, where the DII states zeros as the CRC of its module.
+fn with_zeros(packets: &[u8]) -> Result<[u8; FIRST_LEN], Fail> {
+    let mut changed = [0; FIRST_LEN];
+    if packets.len() != FIRST_LEN {
+        return Err("seven packets".into());
+    }
+    changed.copy_from_slice(packets);
+    if changed[MODULE_CRC_AT..MODULE_CRC_AT + 4] != [0x03, 0x76, 0xE6, 0xE7] {
+        return Err("the CRC of the module".into());
+    }
+    changed[MODULE_CRC_AT..MODULE_CRC_AT + 4].copy_from_slice(&[0; 4]);
+    let crc = crc(&changed[DII_AT..SECTION_CRC_AT]);
+    changed[SECTION_CRC_AT..DII_END].copy_from_slice(&crc.to_be_bytes());
+    Ok(changed)
+}
+
+#[test]
+fn a_built_stream_that_was_changed_is_not_loaded(rt: HostRuntime) -> Result<(), Fail> {
+    let alloc = rt.alloc();
+    let mut shelf = shelf_with(alloc, PLAN)?;
+    let mut flash = SureFlash::blank(alloc, 4, 256)?;
+    let none = Vec::new(alloc);
+    let built = outcome_on(alloc, &["folder", "build"], &mut shelf, none, &mut flash)?;
+    assert!(rt; built.made.len() >= FIRST_LEN);
+    let packets = &built.made[..FIRST_LEN];
+    // What is loaded, the exit code and the line.
+    let rows: [(&[u8], u8, &str); 3] = [
+        (packets, 0, "loaded group 2147483650 bytes 9\n"),
+        (
+            &with_zeros(packets)?,
+            8,
+            "bad module 1 want 00000000 found 0376e6e7\n",
+        ),
+        (
+            &packets[..6 * 188],
+            7,
+            "incomplete group 2147483650 missing 1\n",
+        ),
+    ];
+    for (air, code, line) in rows {
+        let air = air.to_vec(alloc)?;
+        let words = ["folder", "load", "258"];
+        let loaded = outcome_on(alloc, &words, &mut shelf, air, &mut flash)?;
+        assert_eq!(rt; loaded.status.code(), code);
+        assert_eq!(rt; loaded.put.as_slice(), line.as_bytes());
+        assert_eq!(rt; loaded.made.is_empty(), code != 0);
+    }
+    Ok(())
+}
+
+const NOTICE: &str = "ts = 1
+network = 2
+service = 3
+oui = 4660
+time = \"2024-03-05T02:00:00\"
+pmt_pid = 256
+data_pid = 258
+notice_pid = 257
+turns = 8
+[schedule]
+start = \"2024-03-01T01:00:00\"
+end = \"2024-04-01T01:00:00\"
+period_hours = 24
+duration_hours = 2
+[[group]]
+model = 7
+version = 1
+software_model = 1
+software_version = 2
+modules = [\"a.bin\"]
+";
+
+/// The lines of the levels, where they have a value and where they have none.
+const FOUND_LINES: [&str; 7] = [
+    "1 services 1\n",
+    "2 program 3 pid 256\n",
+    "3 component 257 type 2\n",
+    "4 notices 1\n",
+    "5 carousel 258\n",
+    "6 groups 1\n",
+    "7 modules 1 bytes 9\n",
+];
+
+const NONE_LINES: [&str; 7] = [
+    "1 none\n", "2 none\n", "3 none\n", "4 none\n", "5 none\n", "6 none\n", "7 none\n",
+];
+
+/// The seven lines where so many levels have a value.
+fn lines_of(alloc: Global, levels: usize) -> Result<Vec<u8>, AllocError> {
+    let mut lines = Vec::new(alloc);
+    for level in 0..7usize {
+        let line = if level < levels {
+            FOUND_LINES[level]
+        } else {
+            NONE_LINES[level]
+        };
+        lines.extend_from_slice(line.as_bytes())?;
+    }
+    Ok(lines)
+}
+
+/// The first eight packets without one of them.
+fn without(alloc: Global, packets: &[u8], left_out: usize) -> Result<Vec<u8>, AllocError> {
+    let mut others = Vec::new(alloc);
+    if packets.len() < 8 * 188 {
+        return Ok(others);
+    }
+    for k in 0..8usize {
+        if k != left_out {
+            others.extend_from_slice(&packets[188 * k..188 * k + 188])?;
+        }
+    }
+    Ok(others)
+}
+
+#[test]
+fn a_level_ends_where_its_section_is_left_out(rt: HostRuntime) -> Result<(), Fail> {
+    let alloc = rt.alloc();
+    let mut shelf = shelf_with(alloc, NOTICE)?;
+    let mut flash = SureFlash::blank(alloc, 4, 256)?;
+    let none = Vec::new(alloc);
+    let built = outcome_on(alloc, &["folder", "build"], &mut shelf, none, &mut flash)?;
+    assert_eq!(rt; built.put.as_slice(), "sections 8 packets 8\n".as_bytes());
+    // The packet that is left out (NIT, PAT, PMT, UNT, TDT, DSI, DII, DDB), and how many levels have a value then.
+    let rows = [
+        (0usize, 0usize),
+        (1, 1),
+        (3, 2),
+        (4, 3),
+        (2, 4),
+        (5, 5),
+        (6, 6),
+        (7, 7),
+    ];
+    for (left_out, levels) in rows {
+        let air = without(alloc, &built.made, left_out)?;
+        let found = outcome_on(alloc, &["folder", "find"], &mut shelf, air, &mut flash)?;
+        assert_eq!(rt; found.status, Status::Done);
+        assert_eq!(rt; found.put.as_slice(), lines_of(alloc, levels)?.as_slice());
+    }
+    Ok(())
+}
+
+#[test]
+fn a_formatted_flash_is_booted(rt: HostRuntime) -> Result<(), Fail> {
+    let alloc = rt.alloc();
+    let mut shelf = shelf_with(alloc, PLAN)?;
+    let mut flash = SureFlash::blank(alloc, 4, 4096)?;
+    let none = Vec::new(alloc);
+    let blank = outcome_on(
+        alloc,
+        &["folder", "blank", "4"],
+        &mut shelf,
+        none,
+        &mut flash,
+    )?;
+    assert_eq!(rt; blank.put.as_slice(), "blank 4\n".as_bytes());
+    assert_eq!(rt; blank.made.len(), 4 * 4096usize);
+    assert_eq!(rt; blank.made.as_slice(), flash.contents());
+    let none = Vec::new(alloc);
+    let foreign = outcome_on(alloc, &["folder", "boot"], &mut shelf, none, &mut flash)?;
+    assert_eq!(rt; foreign.status, Status::Foreign);
+    let words = ["folder", "format", "a.bin"];
+    let none = Vec::new(alloc);
+    let formatted = outcome_on(alloc, &words, &mut shelf, none, &mut flash)?;
+    assert_eq!(rt; formatted.put.as_slice(), "formatted bytes 9\n".as_bytes());
+    let none = Vec::new(alloc);
+    let booted = outcome_on(alloc, &["folder", "boot"], &mut shelf, none, &mut flash)?;
+    assert_eq!(rt; booted.made.as_slice(), "123456789".as_bytes());
+    let line = "boot bank 0 number 1 software 1.1 bytes 9\n".as_bytes();
+    assert_eq!(rt; booted.put.as_slice(), line);
+    Ok(())
+}
+
+#[test]
+fn a_built_stream_is_installed_and_booted(rt: HostRuntime) -> Result<(), Fail> {
+    let alloc = rt.alloc();
+    let mut shelf = shelf_with(alloc, PLAN)?;
+    let mut flash = SureFlash::blank(alloc, 4, 4096)?;
+    let none = Vec::new(alloc);
+    let built = outcome_on(alloc, &["folder", "build"], &mut shelf, none, &mut flash)?;
+    assert_eq!(rt; built.status, Status::Done);
+    // box.toml is the old image
+    let words = ["folder", "format", "box.toml"];
+    let none = Vec::new(alloc);
+    let formatted = outcome_on(alloc, &words, &mut shelf, none, &mut flash)?;
+    assert_eq!(rt; formatted.status, Status::Done);
+    let words = ["folder", "replay"];
+    let replayed = outcome_on(alloc, &words, &mut shelf, built.made, &mut flash)?;
+    assert_eq!(rt; replayed.status.code(), 0);
+    let line = "installed group 2147483650 software 1.2 bytes 9\n".as_bytes();
+    assert_eq!(rt; replayed.put.as_slice(), line);
+    assert!(rt; replayed.made.is_empty());
+    let none = Vec::new(alloc);
+    let booted = outcome_on(alloc, &["folder", "boot"], &mut shelf, none, &mut flash)?;
+    assert_eq!(rt; booted.made.as_slice(), "123456789".as_bytes());
+    let line = "boot bank 1 number 2 software 1.2 bytes 9\n".as_bytes();
+    assert_eq!(rt; booted.put.as_slice(), line);
+    Ok(())
+}
+
+#[test]
+fn the_first_sixteen_of_seventeen_services_are_kept(rt: HostRuntime) -> Result<(), Fail> {
+    let alloc = rt.alloc();
+    // A first loop of 17 linkages of type 0x09 for the OUI 4660, and no entry.
+    let mut body = [0xF0, 238].to_vec(alloc)?;
+    for service in 1..18u8 {
+        body.extend_from_slice(&[
+            0x4A, 12, 0, 1, 0, 2, 0, service, 0x09, 4, 0x00, 0x12, 0x34, 0,
+        ])?;
+    }
+    body.extend_from_slice(&[0xF0, 0])?;
+    assert_eq!(rt; body.len(), 242);
+    let head = LongForm {
+        table: 0x40,
+        extension: 2,
+        version: 0,
+        number: 0,
+        last: 0,
+        body: &body,
+    };
+    let section = long_section(alloc, head, true)?;
+    assert_eq!(rt; section.len(), 254);
+    assert_eq!(rt; section[0], 0x40);
+    let mut air = Vec::new(alloc);
+    let _counter = cut(&section, Pid::new(0x10).ok_or("a PID")?, 0, &mut air)?;
+    let mut shelf = shelf_with(alloc, PLAN)?;
+    let mut flash = SureFlash::blank(alloc, 4, 256)?;
+    let found = outcome_on(alloc, &["folder", "find"], &mut shelf, air, &mut flash)?;
+    assert_eq!(rt; found.status, Status::Done);
+    assert!(rt; found.put.starts_with("1 services 16\n2 none\n".as_bytes()));
+    Ok(())
+}

@@ -1,9 +1,0 @@
-use Rattle.wire.specs.Laws.{whole_found, whole_only_seen}
-use Rattle.dsmcc_msg.specs.Exact.{dii_exact}
-use Rattle.dsmcc_msg.proofs.info.Dii.read.Goals as goal
-
-pub returns-clause-found : goal.returns-clause-found
-returns-clause-found c = whole_found (λ d. d) dii_exact c.args.section.now c.section_of.result c.section_of.ensures
-
-pub returns-clause-only : goal.returns-clause-only
-returns-clause-only c = whole_only_seen dii_exact c.args.section.now c.section_of.result c.section_of.ensures

@@ -1,9 +1,0 @@
-use Rattle.wire.specs.Laws.{whole_found, whole_only_seen}
-use Rattle.dsmcc_msg.specs.Exact.{dii_message_exact}
-use Rattle.dsmcc_msg.proofs.info.Dii.read_message.Goals as goal
-
-pub returns-clause-found : goal.returns-clause-found
-returns-clause-found c = whole_found (λ d. d) dii_message_exact c.args.message.now c.message_of.result c.message_of.ensures
-
-pub returns-clause-only : goal.returns-clause-only
-returns-clause-only c = whole_only_seen dii_message_exact c.args.message.now c.message_of.result c.message_of.ensures

@@ -1,0 +1,5 @@
+pub mod Due
+pub mod Lists
+pub mod Rings
+pub mod Ordered
+pub mod Fronts

@@ -1,5 +1,0 @@
-use Rattle.group_image.specs.Image.{IsFor}
-use Rattle.group_image.proofs.tests.places_come_in_any_order.Given as goal
-
-abbrev pub invariant-loop-id : goal.invariant-loop-id
-invariant-loop-id g l = IsFor l.plan l.image

@@ -1,0 +1,97 @@
+-- What the commands of a flash do.
+use Rattle.std.specs.Prelude.{◌≡◌, ◌↔◌, ◌≤◌, ℕ, List}
+use Rattle.box_file.specs.declared.file.BoxFile.{BoxFile}
+use Rattle.flash_bank.specs.Format.{SameOutsideFirst}
+use Rattle.flash_bank.specs.Layout.{IsInLimits}
+use Rattle.flash_bank.specs.Seen.{FlashSeen}
+use Rattle.flash_bank.specs.Sound.{IsSound}
+use Rattle.ssu_io.specs.Bytes.{Gains, GainsPrefix}
+use Rattle.ssu_io.specs.Faults.{Rose}
+use Rattle.ssu_io.specs.Seen.{ShelfSeen, SinkSeen, StopsWriting}
+use Rattle.ssu_line.specs.Lines.{blank_line}
+use Rattle.ssu_status.specs.Answers.{IsFault}
+use Rattle.ssu_status.specs.Status.{OnAbsent, OnBoxRefused, OnDone, OnFlashFault, OnForeign, OnWriteFault}
+use Rattle.ssu_status.specs.declared.status.Status.{Status}
+use Rattle.ssu_status.specs.declared.status.Status.TheVariants.{Done, Geometry}
+use Rattle.tool_box.specs.Boxes.{RefusesBox, TellsBox, box_name}
+use Rattle.tool_box.specs.Fetching.{HasNone, SaysAbsent, SaysAbsentOrFails}
+use Rattle.tool_box.specs.Shelves.{ReadsShelf}
+use Rattle.tool_flash.specs.Answers.{IsBootAnswer, IsFormatAnswer, IsPrinted, OnFilesRead, OnFilesRefused}
+use Rattle.tool_flash.specs.Answers.{OnOpeningRefused, OnTaken, OnUnprinted, OnUntouched}
+use Rattle.tool_flash.specs.Blank.{blank_bytes}
+use Rattle.tool_flash.specs.Boots.{Boots, BootsPart, MakesPrefix}
+use Rattle.tool_flash.specs.Formatting.{FormatsFile, IsFirstAbsent, Judges}
+
+-- `blank N` puts N blocks of 4,096 bytes 255 into `made`, and a line into `out`.
+pub record BlankDoes (blocks : ℕ) (result : Status) (made out : SinkSeen) : Type 0 where
+  -- Done: all of this was put.
+  pub makes : OnDone result (Gains made.got made.got_after (blank_bytes blocks))
+  pub prints : OnDone result (Gains out.got out.got_after (blank_line blocks))
+  -- A write failed on the way.
+  pub write_fault : OnWriteFault result (StopsWriting made out (blank_bytes blocks) (blank_line blocks))
+  -- There is no other answer, and without a fault it is Done.
+  pub answers : IsPrinted result
+  pub complete : ¬ Rose made.faults made.faults_after → ¬ Rose out.faults out.faults_after → result ≡ Done
+  -- The counts of faults never fall.
+  pub made_later : made.faults ≤ made.faults_after
+  pub out_later : out.faults ≤ out.faults_after
+
+-- `format FILE` formats the flash with the bytes of the file and the software of box.toml, and puts a line into `out`.
+pub record FormatDoes (name : List ℕ) (result : Status) (shelf : ShelfSeen) (flash : FlashSeen) (out : SinkSeen)
+    : Type 0 where
+  -- Done: the flash is formatted with these, and `out` got the line.
+  pub done : OnDone result (FormatsFile Gains shelf.held name flash out)
+  -- box.toml is not there, or this is its first bad field; then, the file is not there. The flash is as before.
+  pub absent : OnAbsent result (λ told. IsFirstAbsent shelf.held name told)
+  pub no_box : HasNone shelf.held box_name → SaysAbsent box_name result
+  pub box_refused : OnBoxRefused result (λ field. RefusesBox shelf.held field)
+  pub no_file : (box_file : BoxFile) → TellsBox shelf.held box_file → HasNone shelf.held name
+      → SaysAbsentOrFails name result
+  pub files_refused : OnFilesRefused result flash.same
+  -- Once both were read: Geometry comes exactly where the blocks are out of the limits, and NoFit exactly where the file is
+  -- longer than a bank. The flash is not changed.
+  pub files_read : OnFilesRead result (Judges shelf.held name flash.blocks result)
+  pub untouched : OnUntouched result flash.only_reads
+  -- The flash failed: the other bank and an odd last block are as before.
+  pub flash_fault : OnFlashFault result
+      (flash.tells → SameOutsideFirst flash.blocks flash.contents flash.contents_after)
+  pub flash_cause : OnFlashFault result (Rose flash.faults flash.faults_after)
+  -- `out` failed: the flash is formatted, and `out` got a prefix of the line.
+  pub write_fault : OnWriteFault result (FormatsFile GainsPrefix shelf.held name flash out)
+  pub write_cause : OnWriteFault result (Rose out.faults out.faults_after)
+  pub unprinted : OnUnprinted result out.same
+  -- There is no other answer, and without a fault none that tells of one.
+  pub answers : IsFormatAnswer result
+  pub complete : ¬ Rose shelf.faults shelf.faults_after → ¬ Rose flash.faults flash.faults_after
+      → ¬ Rose out.faults out.faults_after → ¬ IsFault result
+  -- The shelf holds what it held, the flash has its blocks, and the counts of faults never fall.
+  pub files : ReadsShelf result shelf
+  pub blocks : flash.blocks_after ≡ flash.blocks
+  pub flash_later : flash.faults ≤ flash.faults_after
+  pub out_later : out.faults ≤ out.faults_after
+
+-- `boot` puts the image that boot takes into `made`, and a line of its record into `out`. It does not change the flash.
+pub record BootDoes (result : Status) (flash : FlashSeen) (made out : SinkSeen) : Type 0 where
+  -- Done: all of this was put.
+  pub done : OnDone result (Boots Gains flash made out)
+  -- Geometry comes exactly where the blocks are out of the limits.
+  pub geometry : (result ≡ Geometry) ↔ (IsInLimits flash.blocks → ⊥)
+  -- The contents are not sound; they are, where something was put.
+  pub foreign : flash.tells → OnForeign result (IsSound flash.blocks flash.contents → ⊥)
+  pub sound : flash.tells → OnTaken result (IsSound flash.blocks flash.contents)
+  pub refused : OnOpeningRefused result (made.got_after ≡ made.got)
+  -- The flash failed: nothing was made, or a prefix of the image.
+  pub flash_fault : OnFlashFault result (flash.tells → MakesPrefix flash made)
+  pub flash_cause : OnFlashFault result (Rose flash.faults flash.faults_after)
+  -- A write failed on the way.
+  pub write_fault : OnWriteFault result (BootsPart flash made out)
+  pub unprinted : OnUnprinted result out.same
+  pub reads : flash.only_reads
+  -- There is no other answer, and without a fault none that tells of one.
+  pub answers : IsBootAnswer result
+  pub complete : ¬ Rose flash.faults flash.faults_after → ¬ Rose made.faults made.faults_after
+      → ¬ Rose out.faults out.faults_after → ¬ IsFault result
+  -- The counts of faults never fall.
+  pub flash_later : flash.faults ≤ flash.faults_after
+  pub made_later : made.faults ≤ made.faults_after
+  pub out_later : out.faults ≤ out.faults_after

@@ -1,0 +1,55 @@
+-- What the command `replay` does: the promise of a loader, and then what each answer says.
+use Rattle.std.specs.Prelude.{◌≡◌, ◌≤◌, ◌⊎◌, ◌++◌, ℕ, Bool, List, Some, length}
+use Rattle.box_file.specs.declared.file.BoxFile.{BoxFile}
+use Rattle.flash_bank.specs.Leaving.{KeepsBoot}
+use Rattle.flash_bank.specs.Seen.{FlashSeen}
+use Rattle.flash_bank.specs.Sound.{Boot, BootOf, IsSound, IsWorn}
+use Rattle.ssu_answer.specs.declared.chosen.Chosen.{Chosen}
+use Rattle.ssu_io.specs.Seen.{ShelfSeen, SinkSeen, SourceSeen}
+use Rattle.ssu_loader.specs.Replaying.{AtAnyMoment, IsNotBegun, IsReady, receiver_at}
+use Rattle.ssu_loader.specs.Replays.{BeginsNone, CarriesFirst, record_after}
+use Rattle.ssu_status.specs.Answers.{IsFault}
+use Rattle.ssu_status.specs.declared.status.Status.{Status}
+use Rattle.ssu_status.specs.declared.status.Status.TheVariants.{Installed, NoMemory}
+use Rattle.tool_box.specs.Boxes.{box_name}
+use Rattle.tool_box.specs.Fetching.{HasNone, SaysAbsent}
+use Rattle.tool_box.specs.Shelves.{ReadsShelf}
+use Rattle.tool_replay.specs.Answers.{HoldsBox, InstallsForBox, NoneFailed, Says}
+use Rattle.ts_input.specs.Packets.{IsWithin}
+
+-- What is said of contents holds of a flash that tells them, and of what may be left where it tells its moments.
+-- `in_bank` says whether the places of a group are staged in the spare bank.
+pub record Replays (in_bank : Bool) (result : Status) (shelf : ShelfSeen) (air : SourceSeen) (flash : FlashSeen)
+    (out : SinkSeen) : Type 0 where
+  -- From sound contents, whatever packets come, power loss at any moment, within an erase or program too, leaves a
+  -- flash whose boot takes the former image, or a matching, admitted group that the packets taken carry whole.
+  pub at_any_moment : flash.tells → IsSound flash.blocks flash.contents
+      → (former : Boot) → BootOf flash.blocks flash.contents former → AtAnyMoment flash
+      (λ left. KeepsBoot flash.blocks flash.contents left ⊎ InstallsForBox shelf air flash former left)
+  -- If packets at the front carry a group whole, that is decided first, and no call fails, the answer is Installed,
+  -- and boot takes its image.
+  pub carried : flash.tells → IsReady flash → (former : Boot) → BootOf flash.blocks flash.contents former
+      → (box_file : BoxFile) → HoldsBox shelf.held box_file → NoneFailed shelf air flash out → ¬ (result ≡ NoMemory)
+      → (front rest : List ℕ) (chosen : Chosen) (image : List ℕ) → air.left ≡ Some (front ++ rest)
+      → IsWithin (length front) → CarriesFirst (receiver_at box_file flash former) front chosen image
+      → (result ≡ Installed chosen)
+      × BootOf flash.blocks flash.contents_after (record { head = record_after former.head chosen; image = image })
+  -- Each answer comes exactly where it may, the flash is as it says, and the line of a verdict is printed.
+  pub answers : Says in_bank result shelf air flash out
+  -- It comes of the shelf where it says so, and where no count of faults rises, it is no fault.
+  pub files : ReadsShelf result shelf
+  pub no_box : HasNone shelf.held box_name → SaysAbsent box_name result
+  pub complete : NoneFailed shelf air flash out → ¬ IsFault result
+  -- Where no choice of a group begins in the packets taken, the flash is only read.
+  pub untouched : flash.tells → (former : Boot) → BootOf flash.blocks flash.contents former
+      → (box_file : BoxFile) → HoldsBox shelf.held box_file
+      → (taken rest : List ℕ) → air.left ≡ Some (taken ++ rest) → air.left_after ≡ Some rest
+      → BeginsNone (receiver_at box_file flash former) taken → flash.only_reads
+  -- Contents that are not sound, or that no record can follow, are only read, and no packet is taken.
+  pub refused : flash.tells → ¬ IsSound flash.blocks flash.contents ⊎ IsWorn flash.blocks flash.contents
+      → IsNotBegun air flash
+  -- The blocks stay as they are, and no count falls.
+  pub blocks : flash.blocks_after ≡ flash.blocks
+  pub air_later : air.faults ≤ air.faults_after
+  pub flash_later : flash.faults ≤ flash.faults_after
+  pub out_later : out.faults ≤ out.faults_after

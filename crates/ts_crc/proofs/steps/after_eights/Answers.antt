@@ -1,8 +1,0 @@
-use Rattle.std.proofs.Common.{◌∙◌}
-use Rattle.ts_crc.proofs.Eight.{after_group}
-use Rattle.ts_crc.proofs.steps.after_eights.Goals as goal
-
-pub loop-rest-preserved : goal.loop-rest-preserved
-loop-rest-preserved c =
-    after_group c.loop-rest.now c.with_eight-now.result c.loop-rest.rest.now c.with_eight-now.ensures
-    ∙ c.loop-rest.invariant

@@ -1,0 +1,73 @@
+#!/usr/bin/env python3
+"""Measures the memory of each command: its greatest resident size, as /usr/bin/time tells it.
+
+`replay` is measured on a flash of 22 blocks, and on one of 32,768 blocks (128 MiB) with an update that fills a bank; `find` also with a
+box.toml of 5 MB, since a file that is read whole takes memory by its length. What docs/PERFORMANCE.md states is compared: each command
+takes at most 3 MiB, and besides it a file that is read whole twice its length, `load` and `replay` the image of their group, `replay` a
+map of its blocks too, and `build` not much more than three times the length of its files.
+
+Without /usr/bin/time the script says so and ends with 0.
+
+usage: outside/memory.py            exits with 0 where no command takes more than is stated
+"""
+import sys
+import tempfile
+
+from program import BLOCK, BOX, DONE, FIRST, PLAN, SECOND, in_folder, is_missing
+
+MIB = 1024 * 1024
+# What a command may take whatever its input.
+SMALL = 3 * MIB
+# A map of the blocks of a group has at most so many bytes.
+BLOCK_MAP = 4145152
+LARGE_BLOCKS = 32768
+BANK = (LARGE_BLOCKS - 2) // 2 * BLOCK
+LARGE_PLAN = PLAN.replace('"first.bin", "second.bin"', '"large.bin"').replace("block_size = 1000", "block_size = 4066").replace(
+    "turns = 60", "turns = 17000")
+
+
+def peak(folder, words):
+    """The greatest resident size of a command, in bytes."""
+    with tempfile.NamedTemporaryFile("r") as told:
+        # `time` starts the program from a process of its own, so that the size of this one is not counted
+        ended = folder.answer(*words, before=("/usr/bin/time", "-q", "-f", "%M", "-o", told.name))
+        if ended.status != DONE:
+            sys.exit("%s ended with %d: %s" % (" ".join(words), ended.status, ended.err))
+        return int(told.read()) * 1024
+
+
+class Table:
+    """The lines of what was measured, each with what it may be."""
+
+    def __init__(self):
+        self.over = 0
+
+    def line(self, what, size, most):
+        print("%-46s %9.1f MiB, at most %.1f" % (what, size / MIB, most / MIB))
+        self.over += size > most
+
+
+def work(folder):
+    table = Table()
+    group = len(FIRST + SECOND)
+    folder.prepare(22)
+    for words in (("hear", "258"), ("find",), ("show",), ("blank", "22"), ("format", "old.bin"), ("boot",), ("build",)):
+        table.line(" ".join(words), peak(folder, words), SMALL)
+    table.line("load 258", peak(folder, ("load", "258")), SMALL + group)
+    table.line("replay, 22 blocks", peak(folder, ("replay",)), SMALL + group)
+    folder.write("box.toml", BOX + "#" * 5000000 + "\n")
+    table.line("find, box.toml of 5 MB", peak(folder, ("find",)), SMALL + 2 * 5000000)
+
+    folder.prepare()
+    folder.write("large.bin", bytes(BANK))
+    folder.write("plan.toml", LARGE_PLAN)
+    table.line("build, a file of %d bytes" % BANK, peak(folder, ("build",)), SMALL + 3 * BANK + BANK // 8)
+    folder.must("blank", str(LARGE_BLOCKS))
+    folder.must("format", "old.bin")
+    table.line("load 258, a group of %d bytes" % BANK, peak(folder, ("load", "258")), SMALL + BANK)
+    table.line("replay, %d blocks" % LARGE_BLOCKS, peak(folder, ("replay",)), SMALL + BLOCK_MAP + BANK)
+    return 1 if table.over else 0
+
+
+if __name__ == "__main__":
+    sys.exit(0 if is_missing("/usr/bin/time") else in_folder(work))
