@@ -144,6 +144,11 @@ def pipes(tally, folder):
     os.mkfifo(folder.file("box.toml"))
     tally.same("find, box.toml is a pipe", folder.answer("find"), Ended(SHELF_FAULT, "", "ssu: %s\n" % SHELF))
     tally.same("it still is one", stat.S_ISFIFO(os.stat(folder.file("box.toml")).st_mode), True)
+    folder.prepare()
+    os.remove(folder.file("flash.bin"))
+    os.mkfifo(folder.file("flash.bin"))
+    for words in (("boot",), ("replay",), ("format", "old.bin")):
+        tally.same("%s, flash.bin is a pipe" % " ".join(words), folder.answer(*words), Ended(FLASH_FAULT, "", "ssu: %s\n" % FLASH))
 
 
 def lengths_of_a_flash(tally, folder):

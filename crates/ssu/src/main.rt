@@ -10,6 +10,7 @@ use ssu_status::{Command, Status, made_file};
 use ssu_tool::run;
 use std::alloc::{AllocError, Global};
 use std::fs::File;
+use std::os::unix::fs::FileTypeExt;
 use std::process::ExitCode;
 use std::rt::{Env, Files};
 use std::{env, fs, io};
@@ -150,6 +151,7 @@ fn folder_of(words: &[String]) -> &str {
 }
 
 /// The flash of a command. `boot` opens it for reading alone, and a command that does not use it has one without a file.
+/// A pipe is opened for both also by `boot`, since its opening for reading alone would wait for a writer.
 fn flash_of<R: Files + AllocGlobal>(
     rt: &R,
     path: String,
@@ -157,9 +159,14 @@ fn flash_of<R: Files + AllocGlobal>(
 ) -> FileFlash<'_, R> {
     match command {
         Some(Command::Format(_) | Command::Replay) => FileFlash::new(rt, path),
+        Some(Command::Boot) if is_pipe(rt, &path) => FileFlash::new(rt, path),
         Some(Command::Boot) => FileFlash::read_only(rt, path),
         _ => FileFlash::read_only(rt, String::new(rt.alloc())),
     }
+}
+
+fn is_pipe(rt: &impl Files, path: &str) -> bool {
+    fs::metadata(rt, path).is_ok_and(|found| found.file_type().is_fifo())
 }
 
 fn path(alloc: Global, folder: &str, name: &str) -> Result<String, AllocError> {
