@@ -7,28 +7,16 @@ of the sections and once by a look at all due numbers in each turn. usage: bench
 """
 import os
 import subprocess
+import sys
 import time
 
 TOP = os.path.dirname(os.path.dirname(os.path.abspath(__file__)))
+sys.path.insert(0, os.path.join(TOP, "outside"))
+from program import PLAN, SSU  # pylint: disable=wrong-import-position
+
 OUT = os.path.join(TOP, "bench", "out")
 FOLDER = os.path.join(OUT, "wheel")
 SECTIONS, BLOCK, TURNS = 60000, 128, 1000000
-PLAN = '''ts = 1
-network = 2
-service = 3
-oui = 4660
-time = "2024-03-05T02:00:00"
-pmt_pid = 256
-data_pid = 258
-turns = %d
-[[group]]
-model = 7
-version = 1
-software_model = 1
-software_version = 8
-block_size = %d
-modules = ["a.bin"]
-''' % (TURNS, BLOCK)
 
 
 def least_time(words, runs):
@@ -47,10 +35,10 @@ subprocess.run(["rustc", "-O", "-o", plain, os.path.join(TOP, "bench", "plain_mu
 with open(os.path.join(FOLDER, "a.bin"), "wb") as file:
     file.write(bytes((i + i // 251) % 256 for i in range((SECTIONS - 6) * BLOCK)))
 with open(os.path.join(FOLDER, "plan.toml"), "w") as file:
-    file.write(PLAN)
-ssu = os.path.join(TOP, "ssu")
-print(subprocess.run([ssu, FOLDER, "build"], stdout=subprocess.PIPE, check=True, text=True).stdout.strip())
-built = least_time([ssu, FOLDER, "build"], 5)
+    file.write(PLAN.replace("turns = 60", "turns = %d" % TURNS).replace("block_size = 1000", "block_size = %d" % BLOCK).replace(
+        '"first.bin", "second.bin"', '"a.bin"'))
+print(subprocess.run([SSU, FOLDER, "build"], stdout=subprocess.PIPE, check=True, text=True).stdout.strip())
+built = least_time([SSU, FOLDER, "build"], 5)
 numbers = [str(SECTIONS), str(BLOCK + 30), str(TURNS), os.path.join(FOLDER, "plain.ts")]
 written = least_time([plain, "write"] + numbers, 5)
 scanned = least_time([plain, "scan"] + numbers, 1)
