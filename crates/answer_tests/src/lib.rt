@@ -1,0 +1,15 @@
+//! Tests of what the commands stand on: sources, sinks and shelves, words, answers and lines.
+#![tactic(auto)]
+
+#[cfg(test)]
+mod ssu_answer_tests;
+#[cfg(test)]
+mod ssu_io_tests;
+#[cfg(test)]
+mod ssu_line_tests;
+#[cfg(test)]
+mod ssu_status_tests;
+#[cfg(test)]
+mod tool_box_tests;
+#[cfg(test)]
+mod ts_input_tests;

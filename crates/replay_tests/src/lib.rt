@@ -1,0 +1,8 @@
+//! Tests of `replay`, of the top call, and of the names that callers use.
+#![tactic(auto)]
+
+pub mod public_names;
+#[cfg(test)]
+mod ssu_tool_tests;
+#[cfg(test)]
+mod tool_replay_tests;
