@@ -1,5 +1,7 @@
 //! Whole commands over files in memory: the status, what is put, and what the flash holds.
 
+ghost use Rattle.std.specs.Prelude.{◌+◌, ◌≤◌};
+
 use flash_dev::{Flash, SureFlash};
 use ssu_io::{MemShelf, MemSink, MemSource};
 use ssu_status::Status;
@@ -268,14 +270,36 @@ fn a_built_stream_is_found_and_loaded(rt: HostRuntime) -> Result<(), Fail> {
 /// The packets of the plan's first seven turns: NIT, PAT, TDT, PMT, DSI, DII and DDB.
 const FIRST_LEN: usize = 7 * 188;
 
-/// Where the section of the DII begins, and the CRC of its module; where the CRC of the section begins, and where it ends.
+/// Where the section of the DII begins, and the CRC of its module; where the CRC of the section begins.
 const DII_AT: usize = 5 * 188 + 5;
 
 const MODULE_CRC_AT: usize = DII_AT + 50;
 
 const SECTION_CRC_AT: usize = DII_AT + 56;
 
-const DII_END: usize = DII_AT + 60;
+/// The four bytes at a place of the packets.
+fn four_at(packets: &[u8; FIRST_LEN], at: usize) -> [u8; 4]
+    requires { at + 4 ≤ 1316 }
+{
+    [
+        packets[at],
+        packets[at + 1],
+        packets[at + 2],
+        packets[at + 3],
+    ]
+}
+
+/// Puts four bytes to a place of the packets.
+fn put_four(packets: &mut [u8; FIRST_LEN], at: usize, four: [u8; 4])
+    requires { at + 4 ≤ 1316 }
+{
+    packets[at..at + 4].copy_from_slice(&four);
+}
+
+/// The CRC of the section of the DII, of the bytes before it.
+fn dii_crc(packets: &[u8; FIRST_LEN]) -> [u8; 4] {
+    crc(&packets[DII_AT..SECTION_CRC_AT]).to_be_bytes()
+}
 
 /// The same packets, where the DII states zeros as the CRC of its module.
 fn with_zeros(packets: &[u8]) -> Result<[u8; FIRST_LEN], Fail> {
@@ -284,12 +308,12 @@ fn with_zeros(packets: &[u8]) -> Result<[u8; FIRST_LEN], Fail> {
         return Err("seven packets".into());
     }
     changed.copy_from_slice(packets);
-    if changed[MODULE_CRC_AT..MODULE_CRC_AT + 4] != [0x03, 0x76, 0xE6, 0xE7] {
+    if four_at(&changed, MODULE_CRC_AT) != [0x03, 0x76, 0xE6, 0xE7] {
         return Err("the CRC of the module".into());
     }
-    changed[MODULE_CRC_AT..MODULE_CRC_AT + 4].copy_from_slice(&[0; 4]);
-    let crc = crc(&changed[DII_AT..SECTION_CRC_AT]);
-    changed[SECTION_CRC_AT..DII_END].copy_from_slice(&crc.to_be_bytes());
+    put_four(&mut changed, MODULE_CRC_AT, [0; 4]);
+    let crc = dii_crc(&changed);
+    put_four(&mut changed, SECTION_CRC_AT, crc);
     Ok(changed)
 }
 
@@ -300,8 +324,12 @@ fn a_built_stream_that_was_changed_is_not_loaded(rt: HostRuntime) -> Result<(), 
     let mut flash = SureFlash::blank(alloc, 4, 256)?;
     let none = Vec::new(alloc);
     let built = outcome_on(alloc, &["folder", "build"], &mut shelf, none, &mut flash)?;
-    assert!(rt; built.made.len() >= FIRST_LEN);
-    let packets = &built.made[..FIRST_LEN];
+    let (Some(packets), Some(without_block)) = (
+        built.made.get(..FIRST_LEN),
+        built.made.get(..6 * 188),
+    ) else {
+        return Err("seven packets".into());
+    };
     // What is loaded, the exit code and the line.
     let rows: [(&[u8], u8, &str); 3] = [
         (packets, 0, "loaded group 2147483650 bytes 9\n"),
@@ -310,11 +338,7 @@ fn a_built_stream_that_was_changed_is_not_loaded(rt: HostRuntime) -> Result<(), 
             8,
             "bad module 1 want 00000000 found 0376e6e7\n",
         ),
-        (
-            &packets[..6 * 188],
-            7,
-            "incomplete group 2147483650 missing 1\n",
-        ),
+        (without_block, 7, "incomplete group 2147483650 missing 1\n"),
     ];
     for (air, code, line) in rows {
         let air = air.to_vec(alloc)?;
