@@ -13,6 +13,8 @@ mod ssu_status_tests;
 #[cfg(test)]
 mod ssu_tool_tests;
 #[cfg(test)]
+mod stored_blocks_tests;
+#[cfg(test)]
 mod tool_box_tests;
 #[cfg(test)]
 mod tool_build_tests;
