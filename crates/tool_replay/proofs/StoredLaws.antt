@@ -7,7 +7,7 @@ use Rattle.flash_bank.specs.declared.record.Record.{Record}
 use Rattle.ssu_answer.specs.declared.chosen.Chosen.{Chosen}
 use Rattle.ssu_io.specs.Seen.{SourceSeen}
 use Rattle.ssu_loader.proofs.FrontLaws.{taken_is}
-use Rattle.ssu_loader.specs.Replaying.{Ends, receiver_at, receiver_under}
+use Rattle.ssu_loader.specs.Replaying.{Ends, receiver_under}
 use Rattle.ssu_loader.specs.Replays.{heard_in}
 use Rattle.ssu_loader.specs.Storing.{Stores}
 use Rattle.ssu_loader.specs.declared.fault.LoadFault.{LoadFault}
@@ -46,10 +46,10 @@ module _ (in_bank : Bool) (box_file : BoxFile) (air : SourceSeen) (flash : Flash
   verdict_stores (verdict.Installed chosen) ends = tt
   verdict_stores (verdict.Nothing level) ends = tt
   verdict_stores (verdict.Incomplete chosen missing) ends =
-      let as = ends.comes in
-      let hears = (as.fact.1 tells).0.hears in
+      let box = ends.comes in
+      let hears = (box.fact.1 tells).0.hears in
       let own : hears.taken ≡ taken = taken_is air.left air.left_after hears.taken taken rest left left_after hears.takes in
-      subst (λ (current : Record). StoresUnder current taken) (sym (as.boots tells former boot))
-      (subst (λ (bytes : List ℕ). StoresUnder as.current bytes) own (hears.now.1 staged))
+      subst (λ (current : Record). StoresUnder current taken) (sym (box.boots tells former boot))
+      (subst (λ (bytes : List ℕ). StoresUnder box.current bytes) own (hears.now.1 staged))
   verdict_stores (verdict.BadModule id want found) ends = tt
   verdict_stores verdict.Unsettled ends = tt
