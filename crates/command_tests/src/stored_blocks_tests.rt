@@ -39,7 +39,9 @@ const BLOCK: usize = 4096;
 
 /// Where bank 0 and bank 1 begin, and where the flash ends.
 const BANK_0: usize = 2 * BLOCK;
+
 const BANK_1: usize = 12 * BLOCK;
+
 const END: usize = 22 * BLOCK;
 
 /// A file of 2,500 bytes.
@@ -172,7 +174,10 @@ fn a_replay_that_failed_within_its_erases_is_run_again(rt: HostRuntime) -> Resul
     assert_eq!(rt; installed.status.code(), 0);
     let line = "installed group 2147483650 software 1.2 bytes 2500\n";
     assert_eq!(rt; installed.put.as_slice(), line.as_bytes());
-    assert_eq!(rt; booted(alloc, &mut shelf, &mut flash)?.as_slice(), file(alloc, 0)?.as_slice());
+    assert_eq!(rt;
+        booted(alloc, &mut shelf, &mut flash)?.as_slice(),
+        file(alloc, 0)?.as_slice()
+    );
     Ok(())
 }
 
@@ -222,9 +227,15 @@ fn a_choice_that_begins_ends_what_boot_took_before(rt: HostRuntime) -> Result<()
     assert!(rt; is_all(&flash, 0, BLOCK, 255));
     let newer = file(alloc, 0xA5)?;
     assert!(rt; has_at(&flash, BANK_0, newer.get(..2000).ok_or("two blocks")?));
-    assert_eq!(rt; booted(alloc, &mut shelf, &mut flash)?.as_slice(), file(alloc, 0)?.as_slice());
+    assert_eq!(rt;
+        booted(alloc, &mut shelf, &mut flash)?.as_slice(),
+        file(alloc, 0)?.as_slice()
+    );
     let installed = outcome_on(alloc, &["replay"], &mut shelf, &packets, &mut flash)?;
     assert_eq!(rt; installed.status.code(), 0);
-    assert_eq!(rt; booted(alloc, &mut shelf, &mut flash)?.as_slice(), newer.as_slice());
+    assert_eq!(rt;
+        booted(alloc, &mut shelf, &mut flash)?.as_slice(),
+        newer.as_slice()
+    );
     Ok(())
 }

@@ -264,7 +264,8 @@ fn a_flash_is_refused_unchanged(rt: HostRuntime) -> Result<(), Fail> {
 /// A night's update of 41,943 bytes in three files, which boxes take from one to three o'clock in March 2024. It is sent at
 /// this time.
 fn night_plan(alloc: Global, time: &str) -> Result<String, Fail> {
-    Ok(format!(in alloc; "ts = 1
+    Ok(format!(in alloc;
+        "ts = 1
 network = 2
 bouquet = 9
 service = 3
@@ -285,7 +286,8 @@ version = 1
 software_model = 1
 software_version = 8
 modules = [\"a.bin\", \"b.bin\", \"c.bin\"]
-")?)
+"
+    )?)
 }
 
 #[test]
@@ -327,7 +329,10 @@ fn a_nights_update_is_installed_in_its_window(rt: HostRuntime) -> Result<(), Fai
     for (time, version, code, line, updated) in rows {
         let mut shelf = MemShelf::new(alloc, Vec::new(alloc));
         shelf.add("box.toml", BOX.as_bytes().to_vec(alloc)?)?;
-        shelf.add("plan.toml", night_plan(alloc, time)?.as_bytes().to_vec(alloc)?)?;
+        shelf.add(
+            "plan.toml",
+            night_plan(alloc, time)?.as_bytes().to_vec(alloc)?,
+        )?;
         for (name, byte, len) in files {
             shelf.add(name, vec![in alloc; byte; len]?)?;
         }
