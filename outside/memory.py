@@ -3,13 +3,19 @@
 
 `replay` is measured on a flash of 22 blocks, and on one of 32,768 blocks (128 MiB) with an update that fills a bank; `find` also with a
 box.toml of 5 MB, since a file that is read whole takes memory by its length. What docs/PERFORMANCE.md states is compared: each command
-takes at most 3 MiB, and besides it a file that is read whole twice its length, `load` and `replay` the image of their group, `replay` a
-map of its blocks too, and `build` not much more than three times the length of its files.
+takes at most 3 MiB, and besides it a file that is read whole twice its length, `load` the image of its group, `replay` a map of the blocks
+of its group, and `build` not much more than three times the length of its files.
+
+Of `replay` it is found, too, how much memory that it may write the system has to grant it for its data, its heap among them and its stack
+not: the same replay under a limit (RLIMIT_DATA) that is halved to a page. With a stack of at most 256 KiB besides, it is compared with the
+bound of docs/INTEGRATION.md: the map and under 1 MiB, on every size of flash.
 
 Without /usr/bin/time the script says so and ends with 0.
 
 usage: outside/memory.py            exits with 0 where no command takes more than is stated
 """
+import resource
+import subprocess
 import sys
 import tempfile
 
@@ -20,6 +26,8 @@ MIB = 1024 * 1024
 SMALL = 3 * MIB
 # A map of the blocks of a group has at most so many bytes.
 BLOCK_MAP = 4145152
+STACK = 256 * 1024
+PAGE = 4096
 LARGE_BLOCKS = 32768
 BANK = (LARGE_BLOCKS - 2) // 2 * BLOCK
 LARGE_PLAN = PLAN.replace('"first.bin", "second.bin"', '"large.bin"').replace("block_size = 1000", "block_size = 4066").replace(
@@ -34,6 +42,29 @@ def peak(folder, words):
         if ended.status != DONE:
             sys.exit("%s ended with %d: %s" % (" ".join(words), ended.status, ended.err))
         return int(told.read()) * 1024
+
+
+def least_data(folder):
+    """With how many bytes of data `replay` ends as it does without a limit. All memory is taken before the first packet, so a short stream will do."""
+    air = folder.read("air.ts")
+    folder.write("air.ts", air[:188])
+    def run(most):
+        def limit():
+            resource.setrlimit(resource.RLIMIT_DATA, (most, most))
+        try:
+            return folder.answer("replay", preexec_fn=limit)[:2]
+        except (OSError, subprocess.SubprocessError):
+            # so little that the program cannot be started
+            return None
+    wanted = folder.run("replay")
+    low, high = 0, 256 * MIB
+    while high - low > PAGE:
+        middle = (low + high) // 2 // PAGE * PAGE
+        low, high = (low, middle) if run(middle) == wanted else (middle, high)
+    folder.write("air.ts", air)
+    if run(high)[0] != DONE:
+        sys.exit("replay of the whole stream does not end with %d bytes of data" % high)
+    return high
 
 
 class Table:
@@ -54,7 +85,9 @@ def work(folder):
     for words in (("hear", "258"), ("find",), ("show",), ("blank", "22"), ("format", "old.bin"), ("boot",), ("build",)):
         table.line(" ".join(words), peak(folder, words), SMALL)
     table.line("load 258", peak(folder, ("load", "258")), SMALL + group)
-    table.line("replay, 22 blocks", peak(folder, ("replay",)), SMALL + group)
+    table.line("replay, 22 blocks", peak(folder, ("replay",)), SMALL)
+    folder.must("format", "old.bin")
+    table.line("replay, 22 blocks, its data alone", least_data(folder), MIB - STACK + 22 * BLOCK // 16)
     folder.write("box.toml", BOX + "#" * 5000000 + "\n")
     table.line("find, box.toml of 5 MB", peak(folder, ("find",)), SMALL + 2 * 5000000)
 
@@ -65,7 +98,9 @@ def work(folder):
     folder.must("blank", str(LARGE_BLOCKS))
     folder.must("format", "old.bin")
     table.line("load 258, a group of %d bytes" % BANK, peak(folder, ("load", "258")), SMALL + BANK)
-    table.line("replay, %d blocks" % LARGE_BLOCKS, peak(folder, ("replay",)), SMALL + BLOCK_MAP + BANK)
+    table.line("replay, %d blocks" % LARGE_BLOCKS, peak(folder, ("replay",)), SMALL + BLOCK_MAP)
+    folder.must("format", "old.bin")
+    table.line("replay, %d blocks, its data alone" % LARGE_BLOCKS, least_data(folder), MIB - STACK + BLOCK_MAP)
     return 1 if table.over else 0
 
 

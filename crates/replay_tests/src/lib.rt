@@ -5,4 +5,6 @@ pub mod public_names;
 #[cfg(test)]
 mod ssu_tool_tests;
 #[cfg(test)]
+mod stored_blocks_tests;
+#[cfg(test)]
 mod tool_replay_tests;

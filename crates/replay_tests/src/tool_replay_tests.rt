@@ -1,13 +1,14 @@
 //! Streams that `build` made, replayed to a flash in memory.
 
 use flash_bank::{boot, format};
-use flash_dev::{MemFlash, Tear};
-use flash_stage::RamStage;
+use flash_dev::{Flash, MemFlash, SureFlash, Tear};
+use flash_stage::{BankStage, RamStage, Stage};
 use ssu_answer::{Chosen, Level};
 use ssu_compat::SwId;
 use ssu_io::{MemShelf, MemSink, MemSource};
 use ssu_status::Status;
 use std::alloc::Global;
+use std::process::Abort;
 use std::test::Fail;
 use tool_build::build;
 use tool_replay::replay;
@@ -82,7 +83,7 @@ fn worn_flash(alloc: Global) -> Result<MemFlash, Fail> {
 }
 
 /// The image that boot takes.
-fn booted(alloc: Global, flash: &mut MemFlash) -> Result<Vec<u8>, Fail> {
+fn booted<F: Flash>(alloc: Global, flash: &mut F) -> Result<Vec<u8>, Fail> {
     let mut image = MemSink::new(alloc, Vec::new(alloc));
     match boot(flash, &mut image) {
         Ok(_) => Ok(image.into_bytes()),
@@ -98,16 +99,16 @@ struct Outcome {
 }
 
 /// Replays the packets, of which the source and the output fail the calls of these numbers.
-fn replayed(
+fn replayed<S: Stage, F: Flash>(
     alloc: Global,
     shelf: &mut MemShelf,
     air: &[u8],
     fails: (&[u32], &[u32]),
-    flash: &mut MemFlash,
+    flash: &mut F,
 ) -> Result<Outcome, Fail> {
     let mut air = MemSource::new(air.to_vec(alloc)?, 1000, fails.0.to_vec(alloc)?);
     let mut out = MemSink::new(alloc, fails.1.to_vec(alloc)?);
-    let status = replay::<MemShelf, MemSource, MemFlash, MemSink, RamStage>(
+    let status = replay::<MemShelf, MemSource, F, MemSink, S>(
         alloc, shelf, &mut air, flash, &mut out,
     );
     Ok(Outcome {
@@ -129,7 +130,11 @@ fn chosen(bytes: u32) -> Chosen {
 
 #[test]
 fn each_verdict_has_its_line_and_its_image(rt: HostRuntime) -> Result<(), Fail> {
-    let alloc = rt.alloc();
+    verdicts_are_told::<RamStage>(&rt, rt.alloc())?;
+    verdicts_are_told::<BankStage>(&rt, rt.alloc())
+}
+
+fn verdicts_are_told<S: Stage>(rt: &impl Abort, alloc: Global) -> Result<(), Fail> {
     let new = vec![in alloc; 9u8; 256]?;
     // the version that runs, the length of the file, how many bytes of the stream are sent, the answer, its line, the image that boot takes
     let rows: [(u16, usize, usize, Status, &str, &[u8]); 5] = [
@@ -180,7 +185,7 @@ fn each_verdict_has_its_line_and_its_image(rt: HostRuntime) -> Result<(), Fail> 
         assert_eq!(rt; all.len(), 8 * 188);
         let air = all.get(..sent).ok_or("so many bytes")?;
         let mut flash = flash_of(alloc, version)?;
-        let outcome = replayed(alloc, &mut shelf, air, (&[], &[]), &mut flash)?;
+        let outcome = replayed::<S, MemFlash>(alloc, &mut shelf, air, (&[], &[]), &mut flash)?;
         assert_eq!(rt; outcome.status, status);
         assert_eq!(rt; outcome.line.as_slice(), line.as_bytes());
         assert_eq!(rt; booted(alloc, &mut flash)?.as_slice(), image);
@@ -203,7 +208,7 @@ fn faults_are_told_apart(rt: HostRuntime) -> Result<(), Fail> {
         let mut shelf = shelf_of(alloc, 256, shelf_fails)?;
         let mut flash = flash_of(alloc, 1)?;
         let fails = (air_fails, out_fails);
-        let outcome = replayed(alloc, &mut shelf, &air, fails, &mut flash)?;
+        let outcome = replayed::<BankStage, MemFlash>(alloc, &mut shelf, &air, fails, &mut flash)?;
         assert_eq!(rt; outcome.status, status);
         assert!(rt; outcome.line.is_empty());
         assert_eq!(rt; booted(alloc, &mut flash)?.as_slice(), image);
@@ -213,17 +218,21 @@ fn faults_are_told_apart(rt: HostRuntime) -> Result<(), Fail> {
 
 #[test]
 fn a_replay_that_the_flash_failed_is_run_again(rt: HostRuntime) -> Result<(), Fail> {
-    let alloc = rt.alloc();
+    a_failed_replay_is_run_again::<RamStage>(&rt, rt.alloc())?;
+    a_failed_replay_is_run_again::<BankStage>(&rt, rt.alloc())
+}
+
+fn a_failed_replay_is_run_again<S: Stage>(rt: &impl Abort, alloc: Global) -> Result<(), Fail> {
     let mut shelf = shelf_of(alloc, 256, &[])?;
     let air = packets_of(alloc, &mut shelf)?;
     let mut flash = flash_of(alloc, 1)?;
     // behind the five calls of the formatting, the erase of the bank fails
     flash.fail_at(7, Tear::Front(0))?;
-    let outcome = replayed(alloc, &mut shelf, &air, (&[], &[]), &mut flash)?;
+    let outcome = replayed::<S, MemFlash>(alloc, &mut shelf, &air, (&[], &[]), &mut flash)?;
     assert_eq!(rt; outcome.status, Status::FlashFault);
     assert!(rt; outcome.line.is_empty());
     assert_eq!(rt; booted(alloc, &mut flash)?.as_slice(), OLD);
-    let outcome = replayed(alloc, &mut shelf, &air, (&[], &[]), &mut flash)?;
+    let outcome = replayed::<S, MemFlash>(alloc, &mut shelf, &air, (&[], &[]), &mut flash)?;
     assert_eq!(rt; outcome.status, Status::Installed(chosen(256)));
     assert_eq!(rt; booted(alloc, &mut flash)?.len(), 256);
     Ok(())
@@ -236,18 +245,109 @@ fn a_flash_is_refused_unchanged(rt: HostRuntime) -> Result<(), Fail> {
     let air = packets_of(alloc, &mut shelf)?;
     let mut worn = worn_flash(alloc)?;
     let before = worn.contents().to_vec(alloc)?;
-    let outcome = replayed(alloc, &mut shelf, &air, (&[], &[]), &mut worn)?;
+    let outcome = replayed::<BankStage, MemFlash>(alloc, &mut shelf, &air, (&[], &[]), &mut worn)?;
     assert_eq!(rt; outcome.status, Status::Worn);
     assert!(rt; outcome.line.is_empty());
     assert_eq!(rt; worn.contents(), before.as_slice());
     let mut blank = MemFlash::blank(alloc, 4, 256, 64)?;
-    let outcome = replayed(alloc, &mut shelf, &air, (&[], &[]), &mut blank)?;
+    let outcome = replayed::<BankStage, MemFlash>(alloc, &mut shelf, &air, (&[], &[]), &mut blank)?;
     assert_eq!(rt; outcome.status, Status::Foreign);
     let mut none = MemFlash::blank(alloc, 3, 256, 64)?;
-    let outcome = replayed(alloc, &mut shelf, &air, (&[], &[]), &mut none)?;
+    let outcome = replayed::<BankStage, MemFlash>(alloc, &mut shelf, &air, (&[], &[]), &mut none)?;
     assert_eq!(rt; outcome.status, Status::Geometry);
     let mut empty = MemShelf::new(alloc, Vec::new(alloc));
-    let outcome = replayed(alloc, &mut empty, &air, (&[], &[]), &mut worn)?;
+    let outcome = replayed::<BankStage, MemFlash>(alloc, &mut empty, &air, (&[], &[]), &mut worn)?;
     assert_eq!(rt; outcome.status.code(), 9);
+    Ok(())
+}
+
+/// A night's update of 41,943 bytes in three files, which boxes take from one to three o'clock in March 2024. It is sent at
+/// this time.
+fn night_plan(alloc: Global, time: &str) -> Result<String, Fail> {
+    Ok(format!(in alloc;
+        "ts = 1
+network = 2
+bouquet = 9
+service = 3
+oui = 4660
+time = \"{time}\"
+pmt_pid = 256
+notice_pid = 257
+data_pid = 258
+turns = 60
+[schedule]
+start = \"2024-03-01T01:00:00\"
+end = \"2024-04-01T01:00:00\"
+period_hours = 24
+duration_hours = 2
+[[group]]
+model = 7
+version = 1
+software_model = 1
+software_version = 8
+modules = [\"a.bin\", \"b.bin\", \"c.bin\"]
+"
+    )?)
+}
+
+#[test]
+fn a_nights_update_is_installed_in_its_window(rt: HostRuntime) -> Result<(), Fail> {
+    let alloc = rt.alloc();
+    let files: [(&str, u8, usize); 3] = [
+        ("a.bin", 1, 20_000),
+        ("b.bin", 2, 20_000),
+        ("c.bin", 3, 1943),
+    ];
+    let mut joined = Vec::new(alloc);
+    for (_, byte, len) in files {
+        joined.extend_from_slice(&vec![in alloc; byte; len]?)?;
+    }
+    // when it is sent, the version that runs, the exit code, the line, and whether boot takes the update then
+    let rows: [(&str, u16, u8, &str, bool); 3] = [
+        (
+            "2024-03-05T02:00:00",
+            7,
+            0,
+            "installed group 2147483650 software 1.8 bytes 41943\n",
+            true,
+        ),
+        (
+            "2024-03-05T12:00:00",
+            7,
+            6,
+            "nothing level 5 window\n",
+            false,
+        ),
+        (
+            "2024-03-05T02:00:00",
+            8,
+            6,
+            "nothing level 6 group\n",
+            false,
+        ),
+    ];
+    for (time, version, code, line, updated) in rows {
+        let mut shelf = MemShelf::new(alloc, Vec::new(alloc));
+        shelf.add("box.toml", BOX.as_bytes().to_vec(alloc)?)?;
+        shelf.add(
+            "plan.toml",
+            night_plan(alloc, time)?.as_bytes().to_vec(alloc)?,
+        )?;
+        for (name, byte, len) in files {
+            shelf.add(name, vec![in alloc; byte; len]?)?;
+        }
+        let air = packets_of(alloc, &mut shelf)?;
+        let mut flash = SureFlash::blank(alloc, 24, 4096)?;
+        let running = SwId { model: 1, version };
+        if format(&mut flash, OLD, running).is_err() {
+            return Err("it is formatted".into());
+        }
+        let none = (&[] as &[u32], &[] as &[u32]);
+        let outcome = replayed::<BankStage, SureFlash>(alloc, &mut shelf, &air, none, &mut flash)?;
+        assert_eq!(rt; outcome.status.code(), code);
+        assert_eq!(rt; outcome.line.as_slice(), line.as_bytes());
+        let image = if updated { joined.as_slice() } else { OLD };
+        assert_eq!(rt; booted(alloc, &mut flash)?.as_slice(), image);
+    }
     Ok(())
 }

@@ -1,5 +1,5 @@
--- What each command does, by what the words ask for. An object that a command has no use for is as it was. The stage of
--- `replay` keeps a group in memory until it is whole, and none of it in the bank.
+-- What each command does, by what the words ask for. An object that a command has no use for is as it was. The places of a
+-- group that `replay` collects are staged in the spare bank.
 use Rattle.std.specs.Prelude.{true, false}
 use Rattle.flash_bank.specs.Seen.{FlashSeen}
 use Rattle.ssu_io.specs.Seen.{ShelfSeen, SinkSeen, SourceSeen}
@@ -30,4 +30,4 @@ Does (ToFormat name) result shelf air flash made out =
 Does ToBoot result shelf air flash made out =
     BootDoes result flash made out × (shelf.same × air.same)
 Does ToReplay result shelf air flash made out =
-    Replays false result shelf air flash out × made.same
+    Replays true result shelf air flash out × made.same

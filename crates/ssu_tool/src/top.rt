@@ -8,7 +8,7 @@ ghost use Rattle.ssu_status.specs.declared.status.Status.TheVariants.{Usage};
 ghost use Rattle.ssu_tool.specs.Does.{Does};
 
 use flash_dev::Flash;
-use flash_stage::RamStage;
+use flash_stage::BankStage;
 use ssu_io::{Shelf, Sink, Source};
 use ssu_status::{Command, Status};
 use std::alloc::Global;
@@ -78,6 +78,6 @@ fn dispatch<H: Shelf, A: Source, F: Flash, W: Sink, T: Sink>(
         Command::Blank(blocks) => blank(blocks, made, out),
         Command::Format(name) => format(alloc, &name, shelf, flash, out),
         Command::Boot => boot(flash, made, out),
-        Command::Replay => replay::<H, A, F, T, RamStage>(alloc, shelf, air, flash, out),
+        Command::Replay => replay::<H, A, F, T, BankStage>(alloc, shelf, air, flash, out),
     }
 }

@@ -1,5 +1,5 @@
 -- The box of a shelf that tells its files.
-use Rattle.std.proofs.Common.{◌≡◌, ℕ, List, Option, Some, None, Ok, Err, refl, ap, subst, IsErrOf}
+use Rattle.std.proofs.Common.{◌≡◌, ℕ, List, Option, Some, None, Ok, Err, refl, sym, ap, subst, IsErrOf}
 use Rattle.box_file.specs.BoxText.{box_of}
 use Rattle.box_file.specs.declared.file.BoxFile.{BoxFile}
 use Rattle.ssu_loader.specs.declared.fault.LoadFault.{LoadFault}
@@ -42,6 +42,10 @@ box_is_had T (Some files) a other holds refusal absence refused failed unfailed 
 -- what holds for the box that it tells of holds for the box that was had
 pub for_box : (held : Option (List File)) (a b : BoxFile) (P : BoxFile → Type 0) → HoldsBox held a → TellsBox held b → P a → P b
 for_box held a b P holds tells p = subst P (same_box held a b holds tells) p
+
+-- and the other way round
+pub of_box : (held : Option (List File)) (a b : BoxFile) (P : BoxFile → Type 0) → HoldsBox held a → TellsBox held b → P b → P a
+of_box held a b P holds tells p = subst P (sym (same_box held a b holds tells)) p
 
 pub not_memory : (e : LoadFault) → (status_of_fault e ≡ NoMemory → ⊥) → IsErrOf {T = Verdict} (Err e) Memory → ⊥
 not_memory e other is = let same : e ≡ Memory = cc in other (ap status_of_fault same)

@@ -1,3 +1,4 @@
 pub mod CarriedLaws
 pub mod KeptLaws
+pub mod StoredLaws
 pub mod ToldLaws

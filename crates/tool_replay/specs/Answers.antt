@@ -1,8 +1,9 @@
 -- What each answer of `replay` says.
-use Rattle.std.specs.Prelude.{◌≡◌, ℕ, Bool, List, Option, Some, None}
+use Rattle.std.specs.Prelude.{◌≡◌, ◌++◌, ℕ, Bool, List, Option, Some, None}
 use Rattle.box_file.specs.declared.file.BoxFile.{BoxFile}
 use Rattle.flash_bank.specs.Seen.{FlashSeen}
-use Rattle.flash_bank.specs.Sound.{Boot}
+use Rattle.flash_bank.specs.Sound.{Boot, BootOf}
+use Rattle.route_tables.specs.Values.{Receiver}
 use Rattle.ssu_answer.specs.declared.chosen.Chosen.{Chosen}
 use Rattle.ssu_io.specs.Bytes.{Gains, GainsPrefix}
 use Rattle.ssu_io.specs.Faults.{Rose}
@@ -16,7 +17,8 @@ use Rattle.ssu_loader.specs.declared.fault.LoadFault.TheVariants as load_fault
 use Rattle.ssu_loader.specs.declared.verdict.Verdict.{Verdict}
 use Rattle.ssu_loader.specs.declared.verdict.Verdict.TheVariants as verdict
 use Rattle.ssu_status.specs.declared.status.Status.{Status}
-use Rattle.ssu_status.specs.declared.status.Status.TheVariants.{Installed, BoxRefused, Foreign, Nothing, Incomplete, BadModule, Absent, ReadFault, WriteFault, FlashFault, Worn, TooLong, NoMemory, Geometry, ShelfFault, Unsettled}
+use Rattle.ssu_status.specs.declared.status.Status.TheVariants.{Installed, BoxRefused, Foreign, Nothing, Incomplete, BadModule, Absent}
+use Rattle.ssu_status.specs.declared.status.Status.TheVariants.{ReadFault, WriteFault, FlashFault, Worn, TooLong, NoMemory, Geometry, ShelfFault, Unsettled}
 use Rattle.tool_box.specs.Boxes.{RefusesBox, TellsBox, box_name}
 use Rattle.tool_box.specs.Fetching.{Lacks}
 
@@ -100,6 +102,13 @@ pub record InstallsForBox (shelf : ShelfSeen) (air : SourceSeen) (flash : FlashS
   pub told : TellsBox shelf.held box_file
   pub chosen : Chosen
   pub installs : TakesAndInstalls (receiver_at box_file flash former) air.left air.left_after flash.blocks flash.contents left chosen
+
+-- This holds of the box that the shelf told, with this flash, and of the bytes that were taken, where shelf, flash and source tell them.
+abbrev pub ForTaken : ShelfSeen → SourceSeen → FlashSeen → (Receiver → List ℕ → Type 0) → Type 0
+ForTaken shelf air flash Fact =
+    (former : Boot) → BootOf flash.blocks flash.contents former → (box_file : BoxFile) → HoldsBox shelf.held box_file
+    → (taken rest : List ℕ) → air.left ≡ Some (taken ++ rest) → air.left_after ≡ Some rest
+    → Fact (receiver_at box_file flash former) taken
 
 -- No count of faults rose.
 pub record NoneFailed (shelf : ShelfSeen) (air : SourceSeen) (flash : FlashSeen) (out : SinkSeen) : Type 0 where

@@ -1,5 +1,5 @@
 -- What the command `replay` does: the promise of a loader, and then what each answer says.
-use Rattle.std.specs.Prelude.{◌≡◌, ◌≤◌, ◌⊎◌, ◌++◌, ℕ, Bool, List, Some, length}
+use Rattle.std.specs.Prelude.{◌≡◌, ◌≤◌, ◌⊎◌, ◌++◌, ℕ, Bool, true, List, Some, length}
 use Rattle.box_file.specs.declared.file.BoxFile.{BoxFile}
 use Rattle.flash_bank.specs.Leaving.{KeepsBoot}
 use Rattle.flash_bank.specs.Seen.{FlashSeen}
@@ -7,14 +7,16 @@ use Rattle.flash_bank.specs.Sound.{Boot, BootOf, IsSound, IsWorn}
 use Rattle.ssu_answer.specs.declared.chosen.Chosen.{Chosen}
 use Rattle.ssu_io.specs.Seen.{ShelfSeen, SinkSeen, SourceSeen}
 use Rattle.ssu_loader.specs.Replaying.{AtAnyMoment, IsNotBegun, IsReady, receiver_at}
-use Rattle.ssu_loader.specs.Replays.{BeginsNone, CarriesFirst, record_after}
+use Rattle.ssu_loader.specs.Replays.{BeginsNone, CarriesFirst, heard_in, record_after}
+use Rattle.ssu_loader.specs.Storing.{Stores}
 use Rattle.ssu_status.specs.Answers.{IsFault}
+use Rattle.ssu_status.specs.Status.{OnIncomplete}
 use Rattle.ssu_status.specs.declared.status.Status.{Status}
 use Rattle.ssu_status.specs.declared.status.Status.TheVariants.{Installed, NoMemory}
 use Rattle.tool_box.specs.Boxes.{box_name}
 use Rattle.tool_box.specs.Fetching.{HasNone, SaysAbsent}
 use Rattle.tool_box.specs.Shelves.{ReadsShelf}
-use Rattle.tool_replay.specs.Answers.{HoldsBox, InstallsForBox, NoneFailed, Says}
+use Rattle.tool_replay.specs.Answers.{ForTaken, HoldsBox, InstallsForBox, NoneFailed, Says}
 use Rattle.ts_input.specs.Packets.{IsWithin}
 
 -- What is said of contents holds of a flash that tells them, and of what may be left where it tells its moments.
@@ -41,10 +43,11 @@ pub record Replays (in_bank : Bool) (result : Status) (shelf : ShelfSeen) (air :
   pub no_box : HasNone shelf.held box_name → SaysAbsent box_name result
   pub complete : NoneFailed shelf air flash out → ¬ IsFault result
   -- Where no choice of a group begins in the packets taken, the flash is only read.
-  pub untouched : flash.tells → (former : Boot) → BootOf flash.blocks flash.contents former
-      → (box_file : BoxFile) → HoldsBox shelf.held box_file
-      → (taken rest : List ℕ) → air.left ≡ Some (taken ++ rest) → air.left_after ≡ Some rest
-      → BeginsNone (receiver_at box_file flash former) taken → flash.only_reads
+  pub untouched : flash.tells → ForTaken shelf air flash (λ me taken. BeginsNone me taken → flash.only_reads)
+  -- At Incomplete each place that the standing choice has filled is in the spare bank, with the bytes of the first
+  -- block that filled it, so that no block is kept in memory alone.
+  pub stored : flash.tells → in_bank ≡ true → ForTaken shelf air flash (λ me taken. OnIncomplete result
+      (λ chosen missing. Stores flash.blocks flash.contents_after me (heard_in me taken)))
   -- Contents that are not sound, or that no record can follow, are only read, and no packet is taken.
   pub refused : flash.tells → ¬ IsSound flash.blocks flash.contents ⊎ IsWorn flash.blocks flash.contents
       → IsNotBegun air flash

@@ -3,10 +3,13 @@ use Rattle.flash_bank.proofs.ReadsLemmas.{reads_none}
 use Rattle.flash_bank.specs.Seen.{flash_seen}
 use Rattle.ssu_io.specs.Seen.{shelf_seen, sink_seen, source_seen}
 use Rattle.ssu_loader.specs.Replaying.{receiver_at}
-use Rattle.ssu_loader.specs.Replays.{BeginsNone, CarriesFirst}
+use Rattle.ssu_loader.specs.Replays.{BeginsNone, CarriesFirst, heard_in}
+use Rattle.ssu_loader.specs.Storing.{Stores}
+use Rattle.ssu_status.specs.Status.{OnIncomplete}
 use Rattle.tool_replay.specs.Answers.{status_of}
-use Rattle.tool_replay.proofs.CarriedLaws.{box_is_had, for_box, not_memory}
+use Rattle.tool_replay.proofs.CarriedLaws.{box_is_had, for_box, not_memory, of_box}
 use Rattle.tool_replay.proofs.KeptLaws.{leaves_for, leaves_same}
+use Rattle.tool_replay.proofs.StoredLaws.{fault_stores, refusal_stores, verdict_stores}
 use Rattle.tool_replay.proofs.ToldLaws.{has_failed, no_box_failed, no_box_is_absent, no_fault, none_absent, reads_fault, reads_verdict, reads_written, says_fault, says_no_box, says_verdict}
 use Rattle.tool_replay.proofs.command.replay.Goals as goal
 
@@ -32,6 +35,7 @@ returns-in-Err g c =
         no_box = no_box_is_absent _ shelf.held s b.refusals b.absent b.absent_name;
         complete = no_box_failed g.S.Stage.IN_BANK shelf air flash out s b.refusals b.fault_cause;
         untouched = λ tells former boot box_file holds taken rest left left_after none. reads;
+        stored = λ tells staged former boot box_file holds taken rest left left_after. refusal_stores s _ b.refusals;
         refused = λ tells which. (refl, reads);
         blocks = refl;
         air_later = omega arith;
@@ -68,6 +72,7 @@ returns-in-Err-replay g c =
         complete = rw status (has_failed g.S.Stage.IN_BANK shelf air flash out file fault fails);
         untouched = λ tells former boot box_file holds taken rest left left_after none.
             r.untouched tells former boot taken rest left left_after (for_box shelf.held box_file file (λ own. BeginsNone (receiver_at own flash former) taken) holds told none);
+        stored = λ tells staged former boot box_file holds taken rest left left_after. rw status (fault_stores fault _);
         refused = r.refused;
         blocks = r.blocks;
         air_later = r.air_later;
@@ -105,6 +110,9 @@ returns-in-Ok-put_line g c =
         complete = λ well. rw status (no_fault g.S.Stage.IN_BANK shelf air flash out v);
         untouched = λ tells former boot box_file holds taken rest left left_after none.
             r.untouched tells former boot taken rest left left_after (for_box shelf.held box_file file (λ own. BeginsNone (receiver_at own flash former) taken) holds told none);
+        stored = λ tells staged former boot box_file holds taken rest left left_after. rw status (of_box shelf.held box_file file
+            (λ own. OnIncomplete (status_of v) (λ chosen missing. Stores flash.blocks flash.contents_after (receiver_at own flash former) (heard_in (receiver_at own flash former) taken))) holds told
+            (verdict_stores g.S.Stage.IN_BANK file air flash tells staged former boot taken rest left left_after v ends));
         refused = r.refused;
         blocks = r.blocks;
         air_later = r.air_later;
@@ -139,6 +147,7 @@ returns-in-Err-put_line g c =
         complete = λ well is. well.out_well failed;
         untouched = λ tells former boot box_file holds taken rest left left_after none.
             r.untouched tells former boot taken rest left left_after (for_box shelf.held box_file file (λ own. BeginsNone (receiver_at own flash former) taken) holds told none);
+        stored = λ tells staged former boot box_file holds taken rest left left_after. tt;
         refused = r.refused;
         blocks = r.blocks;
         air_later = r.air_later;
