@@ -19,27 +19,27 @@ with_each_more : {T : Type 0} (done : List T) (x : T) (o : Option (List T)) → 
 with_each_more done x None = refl
 with_each_more done x (Some xs) = ap Some (sym (append_assoc done (x ∷ []) xs))
 
-pub with_each_none : {T : Type 0} (o : Option (List T)) → o ≡ with_each [] o
-with_each_none None = refl
-with_each_none (Some xs) = refl
+pub each_none : {T : Type 0} (o : Option (List T)) → o ≡ with_each [] o
+each_none None = refl
+each_none (Some xs) = refl
 
 -- one more item
-pub each_of_step : {T : Type 0} (take : Data → Option T) (done : List T) (vs : List Value) (k : ℕ) (v : Value) (x : T) → k < length vs → v ≡ get_or vs k v → take (view v) ≡ Some x
+pub each_step : {T : Type 0} (take : Data → Option T) (done : List T) (vs : List Value) (k : ℕ) (v : Value) (x : T) → k < length vs → v ≡ get_or vs k v → take (view v) ≡ Some x
     → with_each done (each_of take (items_view (drop k vs))) ≡ with_each (done ++ x ∷ []) (each_of take (items_view (drop (k + 1) vs)))
-each_of_step take done vs k v x low same found =
+each_step take done vs k v x low same found =
     let here : take (view (get_or vs k v)) ≡ Some x = rw (← same) found in
     rw (items_view-drop vs k v low, here) (with_each_more done x _)
 
 -- an item of which nothing is made
-pub each_of_stop : {T : Type 0} (take : Data → Option T) (done : List T) (vs : List Value) (k : ℕ) (v : Value) → k < length vs → v ≡ get_or vs k v → take (view v) ≡ None
+pub each_stop : {T : Type 0} (take : Data → Option T) (done : List T) (vs : List Value) (k : ℕ) (v : Value) → k < length vs → v ≡ get_or vs k v → take (view v) ≡ None
     → with_each done (each_of take (items_view (drop k vs))) ≡ None
-each_of_stop take done vs k v low same refused =
+each_stop take done vs k v low same refused =
     let here : take (view (get_or vs k v)) ≡ None = rw (← same) refused in
     rw (items_view-drop vs k v low, here) refl
 
 -- after the last item
-pub each_of_end : {T : Type 0} (take : Data → Option T) (done : List T) (vs : List Value) (k : ℕ) → length vs ≤ k → with_each done (each_of take (items_view (drop k vs))) ≡ Some done
-each_of_end take done vs k high = rw (drop_all k vs high) (ap Some (append-nil done))
+pub each_end : {T : Type 0} (take : Data → Option T) (done : List T) (vs : List Value) (k : ℕ) → length vs ≤ k → with_each done (each_of take (items_view (drop k vs))) ≡ Some done
+each_end take done vs k high = rw (drop_all k vs high) (ap Some (append-nil done))
 
 -- the items of an array, and whether they are few
 pub few_items_some : (d : Data) (vs : List Value) → as_array d ≡ Some (items_view vs) → nat_le (length vs) 65536 ≡ true → few_items d ≡ Some (items_view vs)

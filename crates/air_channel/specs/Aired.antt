@@ -1,5 +1,6 @@
 -- What becomes of the packets of an input under a script.
-use Rattle.std.specs.Prelude.{ℕ, zero, suc, ◌+◌, ◌%◌, Bool, false, ◌&&◌, ◌||◌, ◌==◌, nat_lt, if◌then◌else◌, List, [], ◌∷◌, replicate, slice_index_or, slice_set, Option, Some, None}
+use Rattle.std.specs.Prelude.{ℕ, zero, suc, ◌+◌, ◌%◌, Bool, false, ◌&&◌, ◌||◌, ◌==◌, nat_lt, if◌then◌else◌}
+use Rattle.std.specs.Prelude.{List, [], ◌∷◌, replicate, slice_index_or, slice_set, Option, Some, None}
 use Rattle.std.specs.List.{concat, enumerate_from, flat_map, fold, list_any}
 use Rattle.air_channel.specs.Scripts.{ScriptData}
 use Rattle.air_channel.specs.declared.change.Change.{Change}

@@ -1,5 +1,6 @@
 -- What a text says of a script: its fields, in the order in which they are looked at.
-use Rattle.std.specs.Prelude.{◌≡◌, ℕ, Bool, not, ◌||◌, codes, List, [], ◌∷◌, ◌++◌, Option, Some, None, is_some, Ok, Err, nat_le, if◌then◌else◌, unwrap_or, map, option_map, option_and_then}
+use Rattle.std.specs.Prelude.{◌≡◌, ℕ, Bool, not, ◌||◌, codes, List, [], ◌∷◌, ◌++◌, Option, Some, None, is_some, Ok, Err, nat_le}
+use Rattle.std.specs.Prelude.{if◌then◌else◌, unwrap_or, map, option_map, option_and_then}
 use Rattle.toml.specs.Data.{Data, array, Items, no_items, item, as_array}
 use Rattle.toml_fields.specs.Reading.{Reading, ◌>>=◌, or_bad}
 use Rattle.toml_fields.specs.Document.{document_of}

@@ -190,7 +190,6 @@ impl OnAir {
 
 impl From<Failed> for AirFault {
     ghost use Rattle.std.specs.Prelude.{◌≡◌};
-    ghost use Rattle.air_channel.specs.Scripts.{rises};
     ghost use Rattle.air_channel.specs.declared.channel.AirFault.TheVariants.{WriteFault};
 
     ghost from_gives = { λ _ fault. fault ≡ WriteFault };

@@ -79,7 +79,7 @@ fn few_items(value: &Value) -> Option<&[Value]>
 }
 
 /// The packet number that each item is.
-#[tactic(auto, using(crate::proofs::Arrays::each_of_step, crate::proofs::Arrays::each_of_stop, crate::proofs::Arrays::each_of_end, crate::proofs::Arrays::with_each_none))]
+#[tactic(auto, using(crate::proofs::Arrays::each_step, crate::proofs::Arrays::each_stop, crate::proofs::Arrays::each_end, crate::proofs::Arrays::each_none))]
 fn each_number(alloc: Global, items: &[Value]) -> Result<Option<Vec<u32>>, ScriptFault>
     ensures value { IfOk result (λ found. option_map (λ ns. ns.items) found ≡ each_of number_of (items_view items.now)) }
     ensures fault { IfErr result (λ fault. fault ≡ Memory) }
@@ -95,7 +95,7 @@ fn each_number(alloc: Global, items: &[Value]) -> Result<Option<Vec<u32>>, Scrip
 }
 
 /// The change that each item is.
-#[tactic(auto, using(crate::proofs::Arrays::each_of_step, crate::proofs::Arrays::each_of_stop, crate::proofs::Arrays::each_of_end, crate::proofs::Arrays::with_each_none))]
+#[tactic(auto, using(crate::proofs::Arrays::each_step, crate::proofs::Arrays::each_stop, crate::proofs::Arrays::each_end, crate::proofs::Arrays::each_none))]
 fn each_change(alloc: Global, items: &[Value]) -> Result<Option<Vec<Change>>, ScriptFault>
     ensures value { IfOk result (λ found. option_map (λ cs. cs.items) found ≡ each_of change_of (items_view items.now)) }
     ensures fault { IfErr result (λ fault. fault ≡ Memory) }
