@@ -1,0 +1,10 @@
+pub mod AirLemmas
+pub mod Arrays
+pub mod Changing
+pub mod Copies
+pub mod Fields
+pub mod PassLemmas
+pub mod Placing
+pub mod Ranges
+pub mod Rising
+pub mod Settling

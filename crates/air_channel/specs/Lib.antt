@@ -1,0 +1,4 @@
+pub mod Aired
+pub mod Passing
+pub mod ScriptText
+pub mod Scripts
