@@ -7,11 +7,9 @@ use Rattle.ssu_answer.specs.declared.level.Level.{Level}
 use Rattle.ssu_answer.specs.declared.verdict.Verdict.{Verdict}
 use Rattle.ssu_answer.specs.declared.verdict.Verdict.TheVariants as verdict
 use Rattle.ssu_status.specs.declared.status.Status.{Status}
-use Rattle.ssu_status.specs.declared.status.Status.TheVariants.{Done, Installed, Usage, BoxRefused, PlanRefused}
-use Rattle.ssu_status.specs.declared.status.Status.TheVariants.{Foreign, Nothing, Incomplete, BadModule, Absent}
-use Rattle.ssu_status.specs.declared.status.Status.TheVariants.{ReadFault, WriteFault, FlashFault, Worn, TooLong}
-use Rattle.ssu_status.specs.declared.status.Status.TheVariants.{NoMemory, NoFit, Geometry, ShelfFault, Unsettled}
-use Rattle.ssu_status.specs.declared.status.Status.TheVariants.{BuildRefused}
+use Rattle.ssu_status.specs.declared.status.Status.TheVariants.{Done, Installed, Usage, BoxRefused, PlanRefused, Foreign, Nothing, Incomplete, BadModule}
+use Rattle.ssu_status.specs.declared.status.Status.TheVariants.{Absent, ReadFault, WriteFault, FlashFault, Worn, TooLong, NoMemory, NoFit, Geometry, ShelfFault}
+use Rattle.ssu_status.specs.declared.status.Status.TheVariants.{Unsettled, BuildRefused}
 
 abbrev pub code_of : Status → ℕ
 code_of Done = 0
@@ -87,10 +85,6 @@ abbrev pub OnDone : Status → Type 0 → Type 0
 OnDone Done fact = fact
 OnDone other fact = Unit {0}
 
-abbrev pub OnInstalled : Status → (Chosen → Type 0) → Type 0
-OnInstalled (Installed chosen) fact = fact chosen
-OnInstalled other fact = Unit {0}
-
 abbrev pub OnUsage : Status → Type 0 → Type 0
 OnUsage Usage fact = fact
 OnUsage other fact = Unit {0}
@@ -103,21 +97,9 @@ abbrev pub OnPlanRefused : Status → (List ℕ → Type 0) → Type 0
 OnPlanRefused (PlanRefused field) fact = fact field.bytes
 OnPlanRefused other fact = Unit {0}
 
-abbrev pub OnForeign : Status → Type 0 → Type 0
-OnForeign Foreign fact = fact
-OnForeign other fact = Unit {0}
-
-abbrev pub OnNothing : Status → (Level → Type 0) → Type 0
-OnNothing (Nothing level) fact = fact level
-OnNothing other fact = Unit {0}
-
 abbrev pub OnIncomplete : Status → (Chosen → ℕ → Type 0) → Type 0
 OnIncomplete (Incomplete chosen missing) fact = fact chosen missing
 OnIncomplete other fact = Unit {0}
-
-abbrev pub OnBadModule : Status → (ℕ → ℕ → ℕ → Type 0) → Type 0
-OnBadModule (BadModule id want found) fact = fact id want found
-OnBadModule other fact = Unit {0}
 
 abbrev pub OnAbsent : Status → (List ℕ → Type 0) → Type 0
 OnAbsent (Absent name) fact = fact name.bytes
@@ -131,14 +113,6 @@ abbrev pub OnWriteFault : Status → Type 0 → Type 0
 OnWriteFault WriteFault fact = fact
 OnWriteFault other fact = Unit {0}
 
-abbrev pub OnFlashFault : Status → Type 0 → Type 0
-OnFlashFault FlashFault fact = fact
-OnFlashFault other fact = Unit {0}
-
-abbrev pub OnWorn : Status → Type 0 → Type 0
-OnWorn Worn fact = fact
-OnWorn other fact = Unit {0}
-
 abbrev pub OnTooLong : Status → Type 0 → Type 0
 OnTooLong TooLong fact = fact
 OnTooLong other fact = Unit {0}
@@ -147,21 +121,9 @@ abbrev pub OnNoMemory : Status → Type 0 → Type 0
 OnNoMemory NoMemory fact = fact
 OnNoMemory other fact = Unit {0}
 
-abbrev pub OnNoFit : Status → Type 0 → Type 0
-OnNoFit NoFit fact = fact
-OnNoFit other fact = Unit {0}
-
-abbrev pub OnGeometry : Status → Type 0 → Type 0
-OnGeometry Geometry fact = fact
-OnGeometry other fact = Unit {0}
-
 abbrev pub OnShelfFault : Status → Type 0 → Type 0
 OnShelfFault ShelfFault fact = fact
 OnShelfFault other fact = Unit {0}
-
-abbrev pub OnUnsettled : Status → Type 0 → Type 0
-OnUnsettled Unsettled fact = fact
-OnUnsettled other fact = Unit {0}
 
 abbrev pub OnBuildRefused : Status → (BuildFault → Type 0) → Type 0
 OnBuildRefused (BuildRefused fault) fact = fact fault

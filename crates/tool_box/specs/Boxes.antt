@@ -6,7 +6,8 @@ use Rattle.box_file.specs.declared.file.BoxFault.{BoxFault}
 use Rattle.box_file.specs.declared.file.BoxFault.TheVariants.{Field, Memory}
 use Rattle.ssu_io.specs.Files.{File, Has}
 use Rattle.ssu_status.specs.declared.status.Status.{Status}
-use Rattle.ssu_status.specs.declared.status.Status.TheVariants.{Absent, BoxRefused, NoMemory, ShelfFault}
+use Rattle.ssu_status.specs.declared.status.Status.TheVariants.{BoxRefused, NoMemory}
+use Rattle.tool_box.specs.Fetching.{IsFetchRefusal}
 
 abbrev pub box_name : List ℕ
 box_name = codes "box.toml"
@@ -25,11 +26,8 @@ pub record RefusesBox (held : Option (List File)) (field : List ℕ) : Type 0 wh
 
 -- a box was not had for one of these reasons
 abbrev pub IsBoxRefusal : Status → Type 0
-IsBoxRefusal (Absent name) = Unit {0}
 IsBoxRefusal (BoxRefused field) = Unit {0}
-IsBoxRefusal ShelfFault = Unit {0}
-IsBoxRefusal NoMemory = Unit {0}
-IsBoxRefusal other = ⊥
+IsBoxRefusal other = IsFetchRefusal other
 
 -- the text of a box file gave no box for one of these reasons
 abbrev pub IsTextRefusal : Status → Type 0

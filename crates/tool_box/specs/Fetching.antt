@@ -23,9 +23,10 @@ abbrev pub IsAbsent : Status → Type 0
 IsAbsent (Absent name) = Unit {0}
 IsAbsent other = ⊥
 
-abbrev pub IsErrAbsent : {T : Type 0} → Result T Status → Type 0
-IsErrAbsent (Ok value) = ⊥
-IsErrAbsent (Err status) = IsAbsent status
+-- the answer is an error, of which this holds
+abbrev pub IsErrWith : {T : Type 0} → (Status → Type 0) → Result T Status → Type 0
+IsErrWith P (Ok value) = ⊥
+IsErrWith P (Err status) = P status
 
 -- the shelf has no file of this name, where it tells its files
 abbrev pub Lacks : Option (List File) → List ℕ → Type 0
@@ -34,7 +35,7 @@ Lacks None name = Unit {0}
 
 -- the answer is Absent exactly where the shelf has no file of this name, where it tells its files
 abbrev pub TellsAbsence : {T : Type 0} → Option (List File) → List ℕ → Result T Status → Type 0
-TellsAbsence (Some files) name result = IsErrAbsent result ↔ (bytes_of files name ≡ None)
+TellsAbsence (Some files) name result = IsErrWith IsAbsent result ↔ (bytes_of files name ≡ None)
 TellsAbsence None name result = Unit {0}
 
 -- the shelf tells its files and has none of this name
@@ -52,11 +53,6 @@ abbrev pub SaysAbsentOrFails : List ℕ → Status → Type 0
 SaysAbsentOrFails name ShelfFault = Unit {0}
 SaysAbsentOrFails name NoMemory = Unit {0}
 SaysAbsentOrFails name other = SaysAbsent name other
-
--- the answer is an error, of which this holds
-abbrev pub IsErrWith : {T : Type 0} → (Status → Type 0) → Result T Status → Type 0
-IsErrWith P (Ok value) = ⊥
-IsErrWith P (Err status) = P status
 
 -- the answer is this value, or that of a fault of the shelf or of want of memory
 abbrev pub IsValueOrFails : {T : Type 0} → T → Result T Status → Type 0
