@@ -7,7 +7,7 @@ takes at most 3 MiB, and besides it a file that is read whole twice its length, 
 of its group, and `build` not much more than three times the length of its files.
 
 Of `replay` it is found, too, how much memory that it may write the system has to grant it for its data, its heap among them and its stack
-not: the same replay under a limit (RLIMIT_DATA) that is halved to a page. With a stack of at most 256 KiB besides, it is compared with the
+not: the same replay under a limit (RLIMIT_DATA) that is found by bisection, to a page. With a stack of at most 256 KiB besides, it is compared with the
 bound of docs/INTEGRATION.md: the map and under 1 MiB, on every size of flash.
 
 Without /usr/bin/time the script says so and ends with 0.

@@ -305,11 +305,11 @@ fn dii_crc(packets: &[u8; FIRST_LEN]) -> [u8; 4] {
 fn with_zeros(packets: &[u8]) -> Result<[u8; FIRST_LEN], Fail> {
     let mut changed = [0; FIRST_LEN];
     if packets.len() != FIRST_LEN {
-        return Err("seven packets".into());
+        return Err("not seven packets".into());
     }
     changed.copy_from_slice(packets);
     if four_at(&changed, MODULE_CRC_AT) != [0x03, 0x76, 0xE6, 0xE7] {
-        return Err("the CRC of the module".into());
+        return Err("not the CRC of the module".into());
     }
     put_four(&mut changed, MODULE_CRC_AT, [0; 4]);
     let crc = dii_crc(&changed);
@@ -328,7 +328,7 @@ fn a_built_stream_that_was_changed_is_not_loaded(rt: HostRuntime) -> Result<(), 
         built.made.get(..FIRST_LEN),
         built.made.get(..6 * 188),
     ) else {
-        return Err("seven packets".into());
+        return Err("not seven packets".into());
     };
     // What is loaded, the exit code and the line.
     let rows: [(&[u8], u8, &str); 3] = [

@@ -100,7 +100,7 @@ fn flash_of(alloc: Global, shelf: &mut MemShelf) -> Result<MemFlash, Fail> {
     let mut flash = MemFlash::blank(alloc, 22, 4096, 64)?;
     let formatted = outcome_on(alloc, &["format", "old.bin"], shelf, &[], &mut flash)?;
     if formatted.status != Status::Done {
-        return Err("it is formatted".into());
+        return Err("it is not formatted".into());
     }
     let mut held = flash.contents().to_vec(alloc)?;
     for k in BANK_1..END {
@@ -109,7 +109,7 @@ fn flash_of(alloc: Global, shelf: &mut MemShelf) -> Result<MemFlash, Fail> {
         }
     }
     if held.len() != 90_112 {
-        return Err("22 blocks".into());
+        return Err("not 22 blocks".into());
     }
     Ok(MemFlash::holding(alloc, &held, 4096, 256)?)
 }
@@ -119,7 +119,7 @@ fn packets_of(alloc: Global, shelf: &mut MemShelf) -> Result<Vec<u8>, Fail> {
     let mut none = MemFlash::blank(alloc, 4, 256, 0)?;
     let built = outcome_on(alloc, &["build"], shelf, &[], &mut none)?;
     if built.status != Status::Done {
-        return Err("it is built".into());
+        return Err("it is not built".into());
     }
     Ok(built.made)
 }
@@ -134,7 +134,7 @@ fn without_the_last(packets: &[u8]) -> Result<&[u8], Fail> {
 fn booted(alloc: Global, shelf: &mut MemShelf, flash: &mut MemFlash) -> Result<Vec<u8>, Fail> {
     let booted = outcome_on(alloc, &["boot"], shelf, &[], flash)?;
     if booted.status != Status::Done {
-        return Err("it boots".into());
+        return Err("it does not boot".into());
     }
     Ok(booted.made)
 }
@@ -200,7 +200,7 @@ fn the_blocks_that_came_are_in_the_spare_bank(rt: HostRuntime) -> Result<(), Fai
     // and so a bank that is opened then reads them
     let mut bank = Bank::open(&mut flash)?;
     if bank.bank_len() < 2000 {
-        return Err("ten blocks".into());
+        return Err("not ten blocks".into());
     }
     let mut front = [0u8; 2000];
     bank.peek(&mut flash, 0, &mut front)?;

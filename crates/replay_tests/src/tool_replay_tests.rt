@@ -55,7 +55,7 @@ fn packets_of(alloc: Global, shelf: &mut MemShelf) -> Result<Vec<u8>, Fail> {
     let mut out = MemSink::new(alloc, Vec::new(alloc));
     match build(alloc, shelf, &mut made, &mut out) {
         Status::Done => Ok(made.into_bytes()),
-        _ => Err(Fail::from("it is built")),
+        _ => Err(Fail::from("it is not built")),
     }
 }
 
@@ -65,7 +65,7 @@ fn flash_of(alloc: Global, version: u16) -> Result<MemFlash, Fail> {
     let software = SwId { model: 1, version };
     match format(&mut flash, OLD, software) {
         Ok(_) => Ok(flash),
-        Err(_) => Err(Fail::from("it is formatted")),
+        Err(_) => Err(Fail::from("it is not formatted")),
     }
 }
 
@@ -87,7 +87,7 @@ fn booted<F: Flash>(alloc: Global, flash: &mut F) -> Result<Vec<u8>, Fail> {
     let mut image = MemSink::new(alloc, Vec::new(alloc));
     match boot(flash, &mut image) {
         Ok(_) => Ok(image.into_bytes()),
-        Err(_) => Err(Fail::from("it boots")),
+        Err(_) => Err(Fail::from("it does not boot")),
     }
 }
 
@@ -340,7 +340,7 @@ fn a_nights_update_is_installed_in_its_window(rt: HostRuntime) -> Result<(), Fai
         let mut flash = SureFlash::blank(alloc, 24, 4096)?;
         let running = SwId { model: 1, version };
         if format(&mut flash, OLD, running).is_err() {
-            return Err("it is formatted".into());
+            return Err("it is not formatted".into());
         }
         let none = (&[] as &[u32], &[] as &[u32]);
         let outcome = replayed::<BankStage, SureFlash>(alloc, &mut shelf, &air, none, &mut flash)?;
