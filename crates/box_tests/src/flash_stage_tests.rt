@@ -52,7 +52,7 @@ fn plan(alloc: Global) -> Result<GroupPlan, Fail> {
     let dii = Dii::read(&section).ok_or("no DII")?;
     match GroupPlan::of(&dii, 512) {
         Ok(plan) => Ok(plan),
-        Err(_) => Err("it cannot be used".into()),
+        Err(_) => Err("it can be used".into()),
     }
 }
 
@@ -174,7 +174,7 @@ fn formatted(alloc: Global) -> Result<MemFlash, Fail> {
 fn booted(alloc: Global, flash: &MemFlash) -> Result<(Record, Vec<u8>), Fail> {
     let held = flash.contents();
     if held.len() != 1536 {
-        return Err("not six blocks of 256 bytes".into());
+        return Err("six blocks of 256 bytes".into());
     }
     let mut flash = MemFlash::holding(alloc, held, 256, 64)?;
     let mut sink = MemSink::new(alloc, Vec::new(alloc));

@@ -20,7 +20,7 @@ fn plan(alloc: Global) -> Result<GroupPlan, Fail>
     let dii = Dii::read(&section).ok_or("no DII")?;
     match GroupPlan::of(&dii, 8) {
         Ok(plan) => Ok(plan),
-        Err(_) => Err("it cannot be used".into()),
+        Err(_) => Err("it can be used".into()),
     }
 }
 

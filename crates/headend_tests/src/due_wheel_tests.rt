@@ -9,7 +9,7 @@ use std::process::Abort;
 use std::sync::ledger::{Blank, Ledger};
 use std::test::Fail;
 
-/// A take: the floor before it, and what is taken. By the contract they need at most 1, 4, 1 and 0 steps.
+/// A take: the floor before it, and what is taken.
 const TAKES: [(u64, Option<(u32, u64)>); 4] = [
     (2, Some((2, 2))),
     (2, Some((0, 5))),

@@ -109,7 +109,7 @@ impl<S: Stage> Loader<S> {
         // At a choice too many it is not called: it is as it was when the section before was heard.
         ensures too_many { (me : Receiver) (ps : List (List ℕ)) → Follows S.Stage F.Flash me ps self.old flash.old
             → IfOk result (λ answer. IfUnsettled answer (StopsBefore S.Stage F.Flash me (heard_by me (packet.now ∷ ps)) flash.new)) }
-        // While no verdict is reached, a stage in the bank has each place that the standing choice has filled there.
+        // While no verdict is reached, a stage in the bank has the places of the choice that stands there.
         ensures stored { S.IN_BANK ≡ true → F.tells → (me : Receiver) (ps : List (List ℕ)) → Follows S.Stage F.Flash me ps self.old flash.old
             → IfOk result (λ answer. IfNone answer (Stores (blocks_of F.Flash flash.new) (F.contents flash.new) me (heard_by me (packet.now ∷ ps)))) }
         // The current record stays, unless a group was installed.

@@ -12,7 +12,7 @@ use Rattle.ssu_line.specs.Lines.{formatted_line}
 use Rattle.ssu_status.specs.Status.{OnAbsent}
 use Rattle.ssu_status.specs.declared.status.Status.{Status}
 use Rattle.ssu_status.specs.declared.status.Status.TheVariants.{Absent, NoMemory, ShelfFault}
-use Rattle.tool_box.specs.Fetching.{HasNone, IsErrAbsent, IsValueOrFails, SaysAbsentOrFails, TellsAbsence}
+use Rattle.tool_box.specs.Fetching.{HasNone, IsValueOrFails, SaysAbsentOrFails, TellsAbsence}
 use Rattle.tool_flash.specs.Formatting.{Puts}
 
 pub puts : (Prints : Option (List ℕ) → Option (List ℕ) → List ℕ → Type 0) (software : SwId) (slice image : List ℕ)

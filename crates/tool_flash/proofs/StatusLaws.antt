@@ -1,10 +1,10 @@
 -- What a status says where the line was put, or only a prefix of it.
 use Rattle.std.proofs.Common.{◌≡◌}
-use Rattle.ssu_status.specs.Answers.{IsFault}
-use Rattle.ssu_status.specs.Status.{OnDone, OnFlashFault, OnForeign, OnWriteFault}
+use Rattle.ssu_status.specs.Answers.{IsFault, IsPrinted}
+use Rattle.ssu_status.specs.Status.{OnDone, OnWriteFault}
 use Rattle.ssu_status.specs.declared.status.Status.{Status}
 use Rattle.ssu_status.specs.declared.status.Status.TheVariants.{Done, FlashFault, Foreign, Geometry, ReadFault, ShelfFault, WriteFault}
-use Rattle.tool_flash.specs.Answers.{IsBootAnswer, IsPrinted, OnOpeningRefused, OnTaken, OnUnprinted}
+use Rattle.tool_flash.specs.Answers.{IsBootAnswer, OnFlashFault, OnForeign, OnOpeningRefused, OnTaken, OnUnprinted}
 
 pub on_done : {P Q : Type 0} (status : Status) → (P → Q) → OnDone status P → OnDone status Q
 on_done Done f p = f p

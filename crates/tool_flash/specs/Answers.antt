@@ -3,11 +3,13 @@ use Rattle.ssu_status.specs.declared.status.Status.{Status}
 use Rattle.ssu_status.specs.declared.status.Status.TheVariants.{Done, Absent, BoxRefused, FlashFault, Foreign, Geometry}
 use Rattle.ssu_status.specs.declared.status.Status.TheVariants.{NoFit, NoMemory, ShelfFault, WriteFault}
 
--- all was done but for the line, which was put or not
-abbrev pub IsPrinted : Status → Type 0
-IsPrinted Done = Unit {0}
-IsPrinted WriteFault = Unit {0}
-IsPrinted other = ⊥
+abbrev pub OnFlashFault : Status → Type 0 → Type 0
+OnFlashFault FlashFault fact = fact
+OnFlashFault other fact = Unit {0}
+
+abbrev pub OnForeign : Status → Type 0 → Type 0
+OnForeign Foreign fact = fact
+OnForeign other fact = Unit {0}
 
 -- ---- boot
 

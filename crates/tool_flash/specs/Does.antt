@@ -9,14 +9,14 @@ use Rattle.ssu_io.specs.Bytes.{Gains, GainsPrefix}
 use Rattle.ssu_io.specs.Faults.{Rose}
 use Rattle.ssu_io.specs.Seen.{ShelfSeen, SinkSeen, StopsWriting}
 use Rattle.ssu_line.specs.Lines.{blank_line}
-use Rattle.ssu_status.specs.Answers.{IsFault}
-use Rattle.ssu_status.specs.Status.{OnAbsent, OnBoxRefused, OnDone, OnFlashFault, OnForeign, OnWriteFault}
+use Rattle.ssu_status.specs.Answers.{IsFault, IsPrinted}
+use Rattle.ssu_status.specs.Status.{OnAbsent, OnBoxRefused, OnDone, OnWriteFault}
 use Rattle.ssu_status.specs.declared.status.Status.{Status}
 use Rattle.ssu_status.specs.declared.status.Status.TheVariants.{Done, Geometry}
 use Rattle.tool_box.specs.Boxes.{RefusesBox, TellsBox, box_name}
 use Rattle.tool_box.specs.Fetching.{HasNone, SaysAbsent, SaysAbsentOrFails}
 use Rattle.tool_box.specs.Shelves.{ReadsShelf}
-use Rattle.tool_flash.specs.Answers.{IsBootAnswer, IsFormatAnswer, IsPrinted, OnFilesRead, OnFilesRefused}
+use Rattle.tool_flash.specs.Answers.{IsBootAnswer, IsFormatAnswer, OnFilesRead, OnFilesRefused, OnFlashFault, OnForeign}
 use Rattle.tool_flash.specs.Answers.{OnOpeningRefused, OnTaken, OnUnprinted, OnUntouched}
 use Rattle.tool_flash.specs.Blank.{blank_bytes}
 use Rattle.tool_flash.specs.Boots.{Boots, BootsPart, MakesPrefix}

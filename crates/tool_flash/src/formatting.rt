@@ -8,10 +8,10 @@ ghost use Rattle.flash_bank.specs.Seen.{flash_seen};
 ghost use Rattle.ssu_io.specs.Bytes.{Gains, GainsPrefix};
 ghost use Rattle.ssu_io.specs.Faults.{Rose};
 ghost use Rattle.ssu_io.specs.Seen.{shelf_seen, sink_seen};
-ghost use Rattle.ssu_status.specs.Status.{OnAbsent, OnBoxRefused, OnDone, OnFlashFault, OnShelfFault, OnWriteFault};
+ghost use Rattle.ssu_status.specs.Status.{OnAbsent, OnBoxRefused, OnDone, OnShelfFault, OnWriteFault};
 ghost use Rattle.tool_box.specs.Boxes.{RefusesBox, TellsBox, box_name};
 ghost use Rattle.tool_box.specs.Fetching.{HasNone, IsErrWith, SaysAbsent, SaysAbsentOrFails};
-ghost use Rattle.tool_flash.specs.Answers.{OnUnprinted, OnUntouched};
+ghost use Rattle.tool_flash.specs.Answers.{OnFlashFault, OnUnprinted, OnUntouched};
 ghost use Rattle.tool_flash.specs.Does.{FormatDoes};
 ghost use Rattle.tool_flash.specs.Formatting.{IsFirstAbsent, IsFilesRefusal, IsPutAnswer, Judged, Puts, TellsFiles};
 

@@ -2,8 +2,8 @@
 ghost use Rattle.std.specs.Prelude.{◌≤◌};
 ghost use Rattle.ssu_io.specs.Bytes.{Gains, GainsPrefix};
 ghost use Rattle.ssu_io.specs.Faults.{Rose};
+ghost use Rattle.ssu_status.specs.Answers.{IsPrinted};
 ghost use Rattle.ssu_status.specs.Status.{OnDone, OnWriteFault};
-ghost use Rattle.tool_flash.specs.Answers.{IsPrinted};
 
 use ssu_io::Sink;
 use ssu_line::Line;
