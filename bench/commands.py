@@ -2,7 +2,8 @@
 """Times the commands of `ssu` on a night's update of 4 MB in three files, sent in 4,000 turns (a stream of 14 MB).
 
 It makes the folder bench/out/commands, builds the stream, and prints for each command the least processor time of twenty
-runs, in milliseconds, and its ratio to `hear` on the carousel's PID. usage: bench/commands.py
+runs, in milliseconds, and its ratio to `hear` on the carousel's PID. `air` has a script that changes nothing, and what it
+makes is thrown away as the output of the others is. usage: bench/commands.py
 """
 import os
 import resource
@@ -69,15 +70,17 @@ os.makedirs(FOLDER, exist_ok=True)
 for k, (name, length) in enumerate([("a.bin", 2000000), ("b.bin", 2000000), ("c.bin", 194304)]):
     with open(os.path.join(FOLDER, name), "wb") as file:
         file.write(bytes((i + i // 251 + 31 * k) % 256 for i in range(length)))
-for name, text in [("plan.toml", PLAN), ("box.toml", BOX)]:
+for name, text in [("plan.toml", PLAN), ("box.toml", BOX), ("script.toml", "")]:
     with open(os.path.join(FOLDER, name), "w") as file:
         file.write(text)
+if not os.path.islink(os.path.join(FOLDER, "aired.ts")):
+    os.symlink(os.devnull, os.path.join(FOLDER, "aired.ts"))
 if not os.access(SSU, os.X_OK):
     subprocess.run([os.path.join(TOP, "ssu"), "--version"], stdout=subprocess.DEVNULL, check=True)
 built = least_time(["build"])
 heard = least_time(["hear", "258"])
 print("build      %6.1f ms" % built)
 print("hear 258   %6.1f ms" % heard)
-for words, prepare in ((["find"], lambda: None), (["show"], lambda: None), (["load", "258"], lambda: None), (["replay"], old_flash)):
+for words, prepare in ((["find"], lambda: None), (["show"], lambda: None), (["load", "258"], lambda: None), (["air"], lambda: None), (["replay"], old_flash)):
     time = least_time(words, prepare)
     print("%-10s %6.1f ms, %.2f times hear" % (" ".join(words), time, time / heard))

@@ -12,7 +12,7 @@ _ssu() {
         ;;
     2)
         [[ $folder == --* ]] ||
-            mapfile -t COMPREPLY < <(compgen -W 'hear load find show build blank format boot replay' -- "$word")
+            mapfile -t COMPREPLY < <(compgen -W 'hear load find show build blank format boot replay air' -- "$word")
         ;;
     3)
         case $command in

@@ -26,6 +26,7 @@ COMMANDS = [
     (("format", "first.bin"), DONE, True),
     (("boot",), DONE, True),
     (("replay",), DONE, True),
+    (("air",), DONE, True),
     (("hear", "007"), USAGE, False),
     ((), USAGE, False),
 ]

@@ -26,7 +26,7 @@ same() {
 
 same 'examples/' ssu exam
 same '--help --version' ssu --
-same 'blank boot build find format hear load replay show' ssu examples/nightly ''
+same 'air blank boot build find format hear load replay show' ssu examples/nightly ''
 same 'blank boot build' ssu examples/nightly b
 same 'boot.bin box.toml' ssu examples/nightly format bo
 same '256 257 258' ssu examples/nightly hear ''

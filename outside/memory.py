@@ -82,7 +82,7 @@ def work(folder):
     table = Table()
     group = len(FIRST + SECOND)
     folder.prepare(22)
-    for words in (("hear", "258"), ("find",), ("show",), ("blank", "22"), ("format", "old.bin"), ("boot",), ("build",)):
+    for words in (("hear", "258"), ("find",), ("show",), ("air",), ("blank", "22"), ("format", "old.bin"), ("boot",), ("build",)):
         table.line(" ".join(words), peak(folder, words), SMALL)
     table.line("load 258", peak(folder, ("load", "258")), SMALL + group)
     table.line("replay, 22 blocks", peak(folder, ("replay",)), SMALL)

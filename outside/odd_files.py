@@ -25,6 +25,7 @@ FOLDERS = [
     ("air.ts", ("load", "258"), READ_FAULT, READ),
     ("air.ts", ("find",), READ_FAULT, READ),
     ("air.ts", ("replay",), READ_FAULT, READ),
+    ("air.ts", ("air",), READ_FAULT, READ),
     ("air.ts", ("build",), WRITE_FAULT, WRITE),
     ("box.toml", ("find",), SHELF_FAULT, SHELF),
     ("box.toml", ("replay",), SHELF_FAULT, SHELF),
@@ -38,6 +39,8 @@ FOLDERS = [
     ("flash.bin", ("blank", "6"), WRITE_FAULT, WRITE),
     ("group.bin", ("load", "258"), WRITE_FAULT, WRITE),
     ("image.bin", ("boot",), WRITE_FAULT, WRITE),
+    ("script.toml", ("air",), SHELF_FAULT, SHELF),
+    ("aired.ts", ("air",), WRITE_FAULT, WRITE),
 ]
 # Where this file is missing, or may not be read.
 ABSENCES = [
@@ -48,6 +51,8 @@ ABSENCES = [
     ("plan.toml", ("build",), ABSENT, "plan.toml is absent"),
     ("second.bin", ("build",), ABSENT, "second.bin is absent"),
     ("old.bin", ("format", "old.bin"), ABSENT, "old.bin is absent"),
+    ("script.toml", ("air",), ABSENT, "script.toml is absent"),
+    ("air.ts", ("air",), READ_FAULT, READ),
     ("flash.bin", ("boot",), GEOMETRY, "flash has a wrong geometry"),
     ("flash.bin", ("replay",), GEOMETRY, "flash has a wrong geometry"),
     ("flash.bin", ("format", "old.bin"), GEOMETRY, "flash has a wrong geometry"),

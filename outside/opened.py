@@ -24,6 +24,7 @@ COMMANDS = [
     (("format", "old.bin"), {"box.toml": READ, "old.bin": READ, "flash.bin": BOTH}),
     (("boot",), {"flash.bin": READ, "image.bin": MADE}),
     (("replay",), {"box.toml": READ, "air.ts": READ, "flash.bin": BOTH}),
+    (("air",), {"script.toml": READ, "air.ts": READ, "aired.ts": MADE}),
     ((), {}),
     (("hear", "8192"), {}),
     (("format", "../old.bin"), {}),

@@ -44,6 +44,14 @@ block_size = 1000
 modules = ["first.bin", "second.bin"]
 """
 
+SCRIPT = """set = [[3, 20, 255]]
+swap = [5]
+drop = [8]
+repeat = [9]
+drop_every = 30
+drop_until = 40
+"""
+
 Ended = collections.namedtuple("Ended", "status out err")
 
 
@@ -106,9 +114,9 @@ class Folder:
             sys.exit("%s ended with %d: %s" % (" ".join(words), ended.status, ended.err.strip()))
 
     def prepare(self, blocks=6):
-        """A folder in which each command has what it wants: a box, a plan with its files, the stream of it, a flash with an image."""
+        """A folder in which each command has what it wants: a box, a plan with its files, a script, the stream, a flash with an image."""
         self.clear()
-        for name, data in (("box.toml", BOX), ("plan.toml", PLAN), ("old.bin", OLD), ("first.bin", FIRST), ("second.bin", SECOND)):
+        for name, data in (("box.toml", BOX), ("plan.toml", PLAN), ("script.toml", SCRIPT), ("old.bin", OLD), ("first.bin", FIRST), ("second.bin", SECOND)):
             self.write(name, data)
         self.must("build")
         self.must("blank", str(blocks))

@@ -21,7 +21,7 @@ end = "2024-04-01T01:00:00"
 period_hours = 24
 duration_hours = 2
 """
-COMMANDS = [("hear", "258"), ("load", "258"), ("find",), ("show",), ("build",), ("blank", "8"), ("format", "first.bin"), ("boot",), ("replay",)]
+COMMANDS = [("hear", "258"), ("load", "258"), ("find",), ("show",), ("build",), ("blank", "8"), ("format", "first.bin"), ("boot",), ("replay",), ("air",)]
 
 
 def run(folder, words, kibibytes):

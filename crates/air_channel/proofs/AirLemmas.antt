@@ -5,14 +5,14 @@ use Rattle.ssu_io.specs.Bytes.{Takes, Gains, GainsPrefix}
 use Rattle.ssu_io.specs.SinkBuffer.{MovesOn}
 use Rattle.ssu_io.proofs.BytesLemmas.{Takes_join}
 use Rattle.ssu_io.proofs.BufferLemmas.{MovesOn_flushed}
-use Rattle.ts_input.specs.Behind.{TakesOne}
-use Rattle.ts_input.specs.Next.{TakesFewer}
-use Rattle.ts_input.specs.Packets.{packets}
+use Rattle.ts_input.specs.Input.{TakesOne, TakesPackets, TakesRest}
+use Rattle.ts_input.specs.Packets.{packets, most_packets, IsWithin}
 use Rattle.ts_input.specs.Puts.{Puts, PutsOfMost, PutsPrefix}
 use Rattle.ts_input.specs.SoFar.{SoFar}
-use Rattle.ts_input.proofs.PacketLemmas.{length_packets, packets_end}
+use Rattle.ts_input.proofs.InputLemmas.{nothing_taken, rest_taken}
+use Rattle.ts_input.proofs.PacketLemmas.{length_packets}
 use Rattle.ts_input.proofs.Pieces.{concat_append}
-use Rattle.ts_input.proofs.Runs.{begin, step, step_failed, end_failed, most_failed, most_end_failed, too_long, longer, prefix_longer}
+use Rattle.ts_input.proofs.Runs.{begin, step, step_failed, run_failed, run_too_long, longer, prefix_longer}
 use Rattle.air_channel.specs.Aired.{aired, aired_bytes}
 use Rattle.air_channel.specs.Passing.{Airs, kept_at, written_at, written_last}
 use Rattle.air_channel.specs.Scripts.{ScriptData, rises}
@@ -125,15 +125,14 @@ gains_prefix_all script n kept count left left_now got got_now got_then waiting 
     let P : List (List ℕ) → Type 0 = λ w. GainsPrefix got_now got_then (waiting ++ concat w) in
     subst P (last_is script n kept count left left_now got got_now waiting sofar) gains
 
--- The end of the input or a fault of it came, with a rest that is no packet, and all that was left went.
+-- No packet came any more, and all that was left went.
 airs : (script : ScriptData) (n : ℕ) (kept : Option (List ℕ)) (count total : ℕ) (left left_now left_then got got_now got_then : Option (List ℕ)) (waiting : List ℕ)
-    → AirSoFar script n kept count left left_now got got_now waiting
-    → (rest : TakesFewer left_now left_then 188)
+    → (sofar : AirSoFar script n kept count left left_now got got_now waiting)
+    → TakesPackets IsWithin left left_then (packets sofar.taken)
     → Gains got_now got_then (waiting ++ concat (written_last script n kept))
     → total ≡ count + length (written_last script n kept)
-    → 188 * n + length rest.rest ≤ 3154116608
     → Airs script total left left_then got got_then
-airs script n kept count total left left_now left_then got got_now got_then waiting sofar rest gains counting few =
+airs script n kept count total left left_now left_then got got_now got_then waiting sofar taken gains counting =
     let ps = packets sofar.taken in
     let all : MovesOn got got_now [] (aired_bytes script ps) (waiting ++ pending_bytes script ps) = record {
       moved = sofar.moves.moved;
@@ -143,17 +142,16 @@ airs script n kept count total left left_now left_then got got_now got_then wait
           ∙ ap (λ (bytes : List ℕ). bytes ++ pending_bytes script ps) sofar.moves.none_lost
           ∙ append_assoc sofar.moves.moved waiting (pending_bytes script ps);
     } in
-    let same : packets (sofar.taken ++ rest.rest) ≡ ps = packets_end sofar.taken rest.rest n sofar.whole rest.fewer in
     let P : List (List ℕ) → Type 0 = λ qs. Gains got got_then (aired_bytes script qs) in
     let last = last_is script n kept count left left_now got got_now waiting sofar in
     record {
       puts = record {
-        taken = sofar.taken ++ rest.rest;
-        takes = Takes_join left left_now left_then sofar.taken rest.rest sofar.takes rest.takes;
-        puts = subst P (sym same)
+        taken = taken.taken;
+        takes = taken.takes;
+        puts = subst P (sym taken.all)
             (MovesOn_flushed got got_now got_then [] (aired_bytes script ps) (waiting ++ pending_bytes script ps) all
             (gains_all script n kept count left left_now got got_now got_then waiting sofar gains));
-        within = omega (arith, length-append sofar.taken rest.rest, sofar.whole, few);
+        within = taken.size;
       };
       count =
           counting
@@ -161,59 +159,41 @@ airs script n kept count total left left_now left_then got got_now got_then wait
           ∙ ap (λ (w : List (List ℕ)). length (settled script ps) + length w) last
           ∙ sym (length-append (settled script ps) (pending script ps))
           ∙ ap length (sym (aired_is script ps))
-          ∙ ap (λ (qs : List (List ℕ)). length (aired script qs)) (sym same);
+          ∙ ap (λ (qs : List (List ℕ)). length (aired script qs)) (sym taken.all);
     }
 
-pub air_end : (script : ScriptData) (n : ℕ) (kept : Option (List ℕ)) (count total : ℕ) (left left_now left_then got got_now got_then : Option (List ℕ)) (waiting : List ℕ)
+-- The same, behind a rest that is no packet, where nothing more was taken.
+pub air_end : (script : ScriptData) (n : ℕ) (kept : Option (List ℕ)) (count total : ℕ) (left left_now left_then left_last got got_now got_then : Option (List ℕ)) (waiting : List ℕ)
     → AirSoFar script n kept count left left_now got got_now waiting
-    → TakesFewer left_now left_then 188
+    → TakesRest n left_now left_then
     → Gains got_now got_then (waiting ++ concat (written_last script n kept))
     → total ≡ count + length (written_last script n kept)
-    → n < 16777216
-    → Airs script total left left_then got got_then
-air_end script n kept count total left left_now left_then got got_now got_then waiting sofar rest gains counting few =
-    airs script n kept count total left left_now left_then got got_now got_then waiting sofar rest gains counting (omega (arith, rest.fewer, few))
+    → Takes left_then left_last []
+    → Airs script total left left_last got got_then
+air_end script n kept count total left left_now left_then left_last got got_now got_then waiting sofar rest gains counting nothing =
+    airs script n kept count total left left_now left_last got got_now got_then waiting sofar
+    (nothing_taken IsWithin left left_then left_last (packets sofar.taken) (rest_taken n left left_now left_then sofar.taken sofar.takes sofar.whole rest) nothing)
+    gains counting
 
--- The same, and a write failed.
+-- No packet came any more, and a write of what was left failed.
 pub air_end_failed : (script : ScriptData) (n : ℕ) (kept : Option (List ℕ)) (count : ℕ) (left left_now left_then got got_now got_then : Option (List ℕ)) (waiting : List ℕ)
     → AirSoFar script n kept count left left_now got got_now waiting
-    → TakesFewer left_now left_then 188
+    → TakesRest n left_now left_then
     → GainsPrefix got_now got_then (waiting ++ concat (written_last script n kept))
-    → n < 16777216
     → PutsPrefix (aired_bytes script) left left_then got got_then
-air_end_failed script n kept count left left_now left_then got got_now got_then waiting sofar rest failed few =
-    end_failed (aired_bytes script) (Stands script kept count) n left left_now left_then got got_now got_then (waiting ++ pending_bytes script (packets sofar.taken))
+air_end_failed script n kept count left left_now left_then got got_now got_then waiting sofar rest failed =
+    run_failed (aired_bytes script) (Stands script kept count) n left left_now left_then got got_now got_then (waiting ++ pending_bytes script (packets sofar.taken))
     (whole_sofar script n kept count left left_now got got_now waiting sofar) rest
-    (gains_prefix_all script n kept count left left_now got got_now got_then waiting sofar failed) few
-
--- The greatest number of packets was taken, and a write failed.
-pub air_most_failed : (script : ScriptData) (n : ℕ) (kept : Option (List ℕ)) (count : ℕ) (left left_now got got_now got_then : Option (List ℕ)) (waiting : List ℕ)
-    → n ≡ 16777216 → AirSoFar script n kept count left left_now got got_now waiting
-    → GainsPrefix got_now got_then (waiting ++ concat (written_last script n kept))
-    → PutsPrefix (aired_bytes script) left left_now got got_then
-air_most_failed script n kept count left left_now got got_now got_then waiting most sofar failed =
-    most_failed (aired_bytes script) (Stands script kept count) n left left_now got got_now got_then (waiting ++ pending_bytes script (packets sofar.taken)) most
-    (whole_sofar script n kept count left left_now got got_now waiting sofar)
     (gains_prefix_all script n kept count left left_now got got_now got_then waiting sofar failed)
 
--- The greatest number of packets was taken, all that was left went, and no byte came.
-pub air_most : (script : ScriptData) (n : ℕ) (kept : Option (List ℕ)) (count total : ℕ) (left left_now left_then got got_now got_then : Option (List ℕ)) (waiting : List ℕ)
-    → n ≡ 16777216 → AirSoFar script n kept count left left_now got got_now waiting
-    → TakesFewer left_now left_then 1
+-- The greatest number of packets was taken, all that was left went, and one more byte came.
+pub air_too_long : (script : ScriptData) (n : ℕ) (kept : Option (List ℕ)) (count : ℕ) (left left_now left_then left_last got got_now got_then : Option (List ℕ)) (waiting : List ℕ)
+    → AirSoFar script n kept count left left_now got got_now waiting
+    → TakesRest n left_now left_then
     → Gains got_now got_then (waiting ++ concat (written_last script n kept))
-    → total ≡ count + length (written_last script n kept)
-    → Airs script total left left_then got got_then
-air_most script n kept count total left left_now left_then got got_now got_then waiting most sofar rest gains counting =
-    airs script n kept count total left left_now left_then got got_now got_then waiting sofar
-    (record { rest = rest.rest; fewer = omega (arith, rest.fewer); takes = rest.takes }) gains counting (omega (arith, rest.fewer, most))
-
--- The same, and one more byte came.
-pub air_too_long : (script : ScriptData) (n : ℕ) (kept : Option (List ℕ)) (count : ℕ) (left left_now left_then got got_now got_then : Option (List ℕ)) (waiting : List ℕ)
-    → n ≡ 16777216 → AirSoFar script n kept count left left_now got got_now waiting
-    → TakesOne left_now left_then
-    → Gains got_now got_then (waiting ++ concat (written_last script n kept))
-    → PutsOfMost (aired_bytes script) left left_then got got_then
-air_too_long script n kept count left left_now left_then got got_now got_then waiting most sofar last gains =
-    too_long (aired_bytes script) (Stands script kept count) n left left_now left_then got got_now got_then (waiting ++ pending_bytes script (packets sofar.taken)) most
-    (whole_sofar script n kept count left left_now got got_now waiting sofar) last
-    (gains_all script n kept count left left_now got got_now got_then waiting sofar gains)
+    → n ≡ most_packets → TakesOne left_then left_last
+    → PutsOfMost (aired_bytes script) left left_last got got_then
+air_too_long script n kept count left left_now left_then left_last got got_now got_then waiting sofar rest gains most last =
+    run_too_long (aired_bytes script) (Stands script kept count) n left left_now left_then left_last got got_now got_then (waiting ++ pending_bytes script (packets sofar.taken))
+    (whole_sofar script n kept count left left_now got got_now waiting sofar) rest
+    (gains_all script n kept count left left_now got got_now got_then waiting sofar gains) most last

@@ -16,7 +16,7 @@ use crate::gathered::Gathered;
 use crate::script::Script;
 use ssu_io::{Failed, Sink, Source};
 use thiserror::Error;
-use ts_input::{Behind, MAX_PACKETS, Next, behind_last, next_packet};
+use ts_input::{Ended, PacketInput};
 use ts_packet::PACKET_LEN;
 
 /// Why not all packets of a source went through a script.
@@ -55,22 +55,16 @@ pub fn air<A: Source, W: Sink>(script: &Script, air: &mut A, sink: &mut W) -> Re
     ensures sink_later { W.faults sink.old ≤ W.faults sink.new }
 {
     let mut on_air = OnAir::new();
-    let mut packet = [0; PACKET_LEN];
-    for n in 0..MAX_PACKETS {
-        match next_packet(air, &mut packet) {
-            Next::Packet => on_air.pass(script, n, &mut packet, sink)?,
-            Next::End => return Ok(on_air.end(script, n, sink)?),
-            Next::Failed => {
-                on_air.end(script, n, sink)?;
-                return Err(AirFault::ReadFault);
-            }
-        }
+    let mut input = PacketInput::new();
+    while input.next(air) {
+        let mut packet = *input.packet();
+        on_air.pass(script, input.count() - 1, &mut packet, sink)?;
     }
-    let written = on_air.end(script, MAX_PACKETS, sink)?;
-    match behind_last(air) {
-        Behind::Nothing => Ok(written),
-        Behind::More => Err(AirFault::TooLong),
-        Behind::Failed => Err(AirFault::ReadFault),
+    let written = on_air.end(script, input.count(), sink)?;
+    match input.ended(air) {
+        Ended::End => Ok(written),
+        Ended::Failed => Err(AirFault::ReadFault),
+        Ended::TooLong => Err(AirFault::TooLong),
     }
 }
 

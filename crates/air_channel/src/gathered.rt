@@ -8,12 +8,10 @@ use arrayvec::ArrayVec;
 use ssu_io::{Failed, Sink};
 use std::marker::Model;
 
-/// How many bytes wait at most: 348 packets.
-const ROOM: usize = 348 * 188;
-
 /// Packets that wait to be put into a sink. A contract sees their bytes.
 #[derive(Drop)]
 pub(crate) struct Gathered {
+    /// At most 348 packets.
     bytes: ArrayVec<u8, 65_424>,
 }
 

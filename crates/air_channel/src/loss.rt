@@ -5,7 +5,7 @@
 pub struct RegularLoss {
     /// One place of so many is left out, 2 to 65,535.
     pub every: u16,
-    /// The first place that is not left out, and behind which none is, 0 to 16,777,216.
+    /// No place from this one on is left out, 0 to 16,777,216.
     pub until: u32,
 }
 

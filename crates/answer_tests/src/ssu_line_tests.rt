@@ -4,8 +4,9 @@ use section_kind::SectionKind;
 use ssu_answer::{Chosen, Level};
 use ssu_compat::SwId;
 use ssu_line::{
-    Line, bad_module, blank, booted, built, carousel, component, formatted, groups, incomplete,
-    installed, loaded, modules, nothing, notices, program, services, shown, unsettled,
+    Line, aired, bad_module, blank, booted, built, carousel, component, formatted, groups,
+    incomplete, installed, loaded, modules, nothing, notices, program, sampled, services, shown,
+    unsettled,
 };
 use ssu_time::Utc;
 use std::test::Fail;
@@ -26,7 +27,7 @@ fn results_are_told(rt: HostRuntime) -> Result<(), Fail> {
         software,
         bytes: 244000,
     };
-    let rows: [(Line, &str); 10] = [
+    let rows: [(Line, &str); 12] = [
         (loaded(2147483650, 9), "loaded group 2147483650 bytes 9\n"),
         (
             installed(chosen),
@@ -43,6 +44,11 @@ fn results_are_told(rt: HostRuntime) -> Result<(), Fail> {
         ),
         (unsettled(), "unsettled\n"),
         (built(7, 7), "sections 7 packets 7\n"),
+        (aired(4), "packets 4\n"),
+        (
+            sampled(5, 3, 244000, 246),
+            "sample 5 modules 3 bytes 244000 sections 246\n",
+        ),
         (blank(4), "blank 4\n"),
         (formatted(5), "formatted bytes 5\n"),
         (

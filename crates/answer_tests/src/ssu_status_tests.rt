@@ -19,7 +19,7 @@ fn the_words_of_each_command_are_read(rt: HostRuntime) -> Result<(), Fail> {
     let pid = Pid::new(8191).ok_or("a PID")?;
     let name = FileName::from("a.bin").map_err(|_| "a name")?;
     // words behind the folder, command, file that is made
-    let rows: [(&[&str], Command, &str); 10] = [
+    let rows: [(&[&str], Command, &str); 11] = [
         (&["hear", "8191"], Command::Hear(pid), ""),
         (&["load", "8191"], Command::Load(pid), "group.bin"),
         (&["find"], Command::Find, ""),
@@ -30,6 +30,7 @@ fn the_words_of_each_command_are_read(rt: HostRuntime) -> Result<(), Fail> {
         (&["format", "a.bin"], Command::Format(name), ""),
         (&["boot"], Command::Boot, "image.bin"),
         (&["replay"], Command::Replay, ""),
+        (&["air"], Command::Air, "aired.ts"),
     ];
     for (behind, command, made) in rows {
         let mut words = owned(rt.alloc(), &["folder"])?;
@@ -44,7 +45,7 @@ fn the_words_of_each_command_are_read(rt: HostRuntime) -> Result<(), Fail> {
 
 #[test]
 fn other_words_are_no_command(rt: HostRuntime) -> Result<(), Fail> {
-    let rows: [&[&str]; 17] = [
+    let rows: [&[&str]; 18] = [
         &[],
         &["folder"],
         &["folder", "hear"],
@@ -62,6 +63,7 @@ fn other_words_are_no_command(rt: HostRuntime) -> Result<(), Fail> {
         &["folder", "format", ""],
         &["folder", "boot", "0"],
         &["folder", "replay", "0"],
+        &["folder", "air", "0"],
     ];
     for words in rows {
         let words = owned(rt.alloc(), words)?;

@@ -1,14 +1,8 @@
-//! Tests of the box: the way to an update, the group, the flash and the loader.
+//! Tests of the box: the way to an update, the group and the loader.
 #![tactic(auto)]
 
 #[cfg(test)]
 mod box_file_tests;
-#[cfg(test)]
-mod flash_bank_tests;
-#[cfg(test)]
-mod flash_dev_tests;
-#[cfg(test)]
-mod flash_stage_tests;
 #[cfg(test)]
 mod group_image_tests;
 #[cfg(test)]

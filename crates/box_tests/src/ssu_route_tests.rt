@@ -132,8 +132,8 @@ fn at_the_carousel(alloc: Global) -> Result<Route, Fail> {
 }
 
 /// The group that was chosen, or 0.
-fn chosen(route: &Route) -> u32 {
-    match route.choice() {
+fn chosen(choice: Option<&Choice>) -> u32 {
+    match choice {
         Some(choice) => choice.group,
         None => 0,
     }
@@ -156,17 +156,19 @@ fn without_one_section_its_level_is_missing(rt: HostRuntime) -> Result<(), Fail>
         (258, dii(alloc, 2, 1, 0, &[])?, Level::Modules),
     ];
     for skipped in 0..8usize {
-        let mut route = Route::new(&the_box(None), 8192);
+        let mut route = HeapRoute::new(alloc, &the_box(None), 8192)
+            .ok()
+            .ok_or("memory")?;
         for (k, (number, bytes, _)) in rows.iter().enumerate() {
             if k != skipped {
                 route.hear(pid(*number), bytes, RUNNING);
             }
         }
         if skipped < 7 {
-            assert_eq!(rt; chosen(&route), 0);
+            assert_eq!(rt; chosen(route.choice()), 0);
             assert_eq!(rt; route.missing(), rows[skipped].2);
         } else {
-            assert_eq!(rt; chosen(&route), 2);
+            assert_eq!(rt; chosen(route.choice()), 2);
             assert_eq!(rt; route.listens().len(), 7);
             assert_eq!(rt;
                 route.report(),
@@ -210,7 +212,7 @@ fn each_section_changes_the_choice_as_told(rt: HostRuntime) -> Result<(), Fail> 
     ];
     for (bytes, expected, group) in rows {
         assert_eq!(rt; route.hear(pid(258), &bytes, RUNNING), expected);
-        assert_eq!(rt; chosen(&route), group);
+        assert_eq!(rt; chosen(route.choice()), group);
     }
     // Another PID, and another transaction in the highest bit.
     let other = dii(alloc, 0x8000_0002, 1, 0, COMPRESSED)?;

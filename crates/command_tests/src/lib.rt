@@ -2,6 +2,8 @@
 #![tactic(auto)]
 
 #[cfg(test)]
+mod tool_air_tests;
+#[cfg(test)]
 mod tool_build_tests;
 #[cfg(test)]
 mod tool_find_tests;

@@ -132,7 +132,7 @@ abbrev pub plan_in_bank : (s : BankStage) (bank : Bank) → IsBegun s bank → G
 plan_in_bank s bank begun = record {
   download = 0;
   block_size = s.block_size;
-  modules = s.modules;
+  modules = record { items = s.modules.items };
   places = s.map.places;
   total = s.total;
   planned = begun.planned;

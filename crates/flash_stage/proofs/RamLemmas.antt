@@ -18,7 +18,7 @@ abbrev pub plan_in : (s : RamStage) (bank : Bank) → IsStarted s bank → Group
 plan_in s bank started = record {
   download = 0;
   block_size = s.block_size;
-  modules = s.modules;
+  modules = record { items = s.modules.items };
   places = s.image.map.places;
   total = s.image.total;
   planned = started.planned;

@@ -1,11 +1,10 @@
 //! A stage whose places go straight into the spare bank.
 
-ghost use Rattle.std.specs.Prelude.{◌≡◌, ◌≤◌, ◌<◌, min, true};
+ghost use Rattle.std.specs.Prelude.{◌≡◌, ◌≤◌, ◌<◌, min, true, vec_capacity};
 
-use crate::modules::replace;
+use crate::modules::{MOST_MODULES, replace};
 use crate::read_back::crc_of_range;
 use crate::stage::Stage;
-use arrayvec::ArrayVec;
 use flash_bank::{Bank, FlashFault};
 use flash_dev::Flash;
 use ssu_compat::SwId;
@@ -22,10 +21,11 @@ const MOST_PLACES: u32 = 33_161_216;
 pub struct BankStage {
     most: u32,
     block_size: u16,
-    modules: ArrayVec<ModulePlan, 512>,
+    modules: Vec<ModulePlan>,
     total: u32,
     map: BlockMap,
     ghost room: { min most 33161216 ≤ map.most },
+    ghost kept: { 512 ≤ vec_capacity modules },
 }
 
 impl Stage for BankStage {
@@ -54,7 +54,7 @@ impl Stage for BankStage {
         Ok(BankStage {
             most,
             block_size: 0,
-            modules: ArrayVec::new(),
+            modules: Vec::with_capacity(alloc, MOST_MODULES)?,
             total: 0,
             map: BlockMap::new(alloc, most.min(MOST_PLACES))?,
         })

@@ -1,13 +1,12 @@
 //! A stage that keeps the group in memory until it is whole.
 
-ghost use Rattle.std.specs.Prelude.{◌≡◌, ◌≤◌, ◌<◌, false, length};
+ghost use Rattle.std.specs.Prelude.{◌≡◌, ◌≤◌, ◌<◌, false, length, vec_capacity};
 ghost use Rattle.group_image.specs.Image.{HasRoom};
 ghost use Rattle.ssu_group.specs.declared.group_plan.GroupPlan.{GroupPlan};
 
 use crate::install::install;
-use crate::modules::replace;
+use crate::modules::{MOST_MODULES, replace};
 use crate::stage::Stage;
-use arrayvec::ArrayVec;
 use flash_bank::{Bank, FlashFault};
 use flash_dev::Flash;
 use group_image::GroupImage;
@@ -22,9 +21,10 @@ use std::alloc::Global;
 pub struct RamStage {
     most: u32,
     block_size: u16,
-    modules: ArrayVec<ModulePlan, 512>,
+    modules: Vec<ModulePlan>,
     image: GroupImage,
     ghost room: { (plan : GroupPlan) → plan.total ≤ most → HasRoom plan image },
+    ghost kept: { 512 ≤ vec_capacity modules },
 }
 
 impl Stage for RamStage {
@@ -53,7 +53,7 @@ impl Stage for RamStage {
         Ok(RamStage {
             most,
             block_size: 0,
-            modules: ArrayVec::new(),
+            modules: Vec::with_capacity(alloc, MOST_MODULES)?,
             image: GroupImage::with_room(alloc, most)?,
         })
     }

@@ -26,6 +26,7 @@ const HELP: &str = "usage: ssu FOLDER COMMAND ARGUMENTS
   format FILE   formats flash.bin with the image in FILE and the software in box.toml
   boot          takes the image that boot takes in flash.bin into image.bin
   replay        replays air.ts to the loader of the box in box.toml, which installs an update in flash.bin
+  air           puts the packets of air.ts through the script in script.toml into aired.ts
 
 Exit codes: 0 done or installed, 2 wrong words, 3 box.toml refused, 4 plan refused, 5 flash is foreign, 6 nothing found,
 7 incomplete, 8 bad module, 9 file absent, 10 read failed, 11 write failed, 12 flash failed, 13 records worn out,

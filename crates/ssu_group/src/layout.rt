@@ -1,6 +1,6 @@
 //! The plan that a DII gives.
 
-ghost use Rattle.std.specs.Prelude.{◌≡◌, ◌<◌, ◌≤◌, ◌^◌, None, Some, MatchResult, IfOk, IfErr, sum_by};
+ghost use Rattle.std.specs.Prelude.{◌≡◌, ◌<◌, ◌≤◌, ◌^◌, [], None, Some, MatchResult, IfOk, IfErr, sum_by};
 ghost use Rattle.ssu_group.specs.Plan.{blocks_of, laid_out};
 ghost use Rattle.ssu_group.specs.Refusal.{refusal, total_of as sum_of_sizes};
 ghost use Rattle.ssu_group.specs.Lays.{IsPlanOf};
@@ -41,24 +41,24 @@ fn usable_bytes(dii: &Dii<'_>, bank_len: u32) -> Result<u32, Unusable>
     Ok(total as u32)
 }
 
-#[derive(Drop)]
-struct Laid {
-    modules: ArrayVec<ModulePlan, 512>,
+/// The blocks and the bytes of modules.
+struct Sums {
     places: u32,
     total: u32,
 }
 
-/// The modules one after the other.
+/// Lays the modules one after the other, where the caller keeps them: there are many, and each copy of them is one on the stack.
+#[inline]
 #[tactic(auto, unfolding(crate::specs::Plan::laid_out))]
-fn lay(dii: &Dii<'_>, block_size: u16) -> Laid
+fn lay(modules: &mut ArrayVec<ModulePlan, 512>, dii: &Dii<'_>, block_size: u16) -> Sums
+    requires none { modules.old.items ≡ [] }
     requires some { 1 ≤ block_size }
     requires bytes { sum_of_sizes dii.now.modules < 2 ^ 32 }
     requires blocks { sum_by (blocks_of block_size) dii.now.modules < 2 ^ 32 }
-    ensures modules { result.modules.items ≡ laid_out block_size 0 0 dii.now.modules }
+    ensures modules { modules.new.items ≡ laid_out block_size 0 0 dii.now.modules }
     ensures places { result.places ≡ sum_by (blocks_of block_size) dii.now.modules }
     ensures total { result.total ≡ sum_of_sizes dii.now.modules }
 {
-    let mut modules: ArrayVec<ModulePlan, 512> = ArrayVec::new();
     let mut places = 0u32;
     let mut total = 0u32;
     for module in dii.modules() {
@@ -75,11 +75,7 @@ fn lay(dii: &Dii<'_>, block_size: u16) -> Laid
         total += module.size;
         places += blocks;
     }
-    Laid {
-        modules,
-        places,
-        total,
-    }
+    Sums { places, total }
 }
 
 impl GroupPlan {
@@ -89,6 +85,7 @@ impl GroupPlan {
     /// `NoBlockSize` where the block size is 0 or above 4,066 bytes, `TooManyBlocks` where a module has more than
     /// 65,536 blocks, `TwiceModule` where a module's id stood earlier, `TooLong` where the modules have more bytes
     /// than the bank, and `Empty` where they have none.
+    #[inline]
     pub fn of(dii: &Dii<'_>, bank_len: u32) -> Result<GroupPlan, Unusable>
         ensures usable { IfOk result (λ p. (refusal dii.now bank_len ≡ None) × IsPlanOf dii.now p) }
         ensures fits { IfOk result (λ p. p.total ≤ bank_len) }
@@ -98,11 +95,8 @@ impl GroupPlan {
             Err(why) => Err(why),
             Ok(_) => {
                 let block_size = dii.block_size;
-                let Laid {
-                    modules,
-                    places,
-                    total,
-                } = lay(dii, block_size);
+                let mut modules = ArrayVec::new();
+                let Sums { places, total } = lay(&mut modules, dii, block_size);
                 Ok(GroupPlan {
                     download: dii.download,
                     block_size,

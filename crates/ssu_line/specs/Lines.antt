@@ -55,6 +55,16 @@ abbrev pub built_line : ℕ → ℕ → List ℕ
 built_line sections packets =
     codes "sections " ++ decimal sections ++ codes " packets " ++ decimal packets ++ codes "\n"
 
+-- packets P
+abbrev pub aired_line : ℕ → List ℕ
+aired_line packets = codes "packets " ++ decimal packets ++ codes "\n"
+
+-- sample N modules M bytes L sections S
+abbrev pub sampled_line : ℕ → ℕ → ℕ → ℕ → List ℕ
+sampled_line number modules bytes sections =
+    codes "sample " ++ decimal number ++ codes " modules " ++ decimal modules ++ codes " bytes " ++ decimal bytes
+    ++ codes " sections " ++ decimal sections ++ codes "\n"
+
 -- blank N
 abbrev pub blank_line : ℕ → List ℕ
 blank_line blocks = codes "blank " ++ decimal blocks ++ codes "\n"

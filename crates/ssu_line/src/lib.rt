@@ -9,8 +9,8 @@ mod writing;
 
 pub use level_lines::{carousel, component, groups, modules, notices, program, services};
 pub use result_lines::{
-    bad_module, blank, booted, built, formatted, incomplete, installed, loaded, nothing, unsettled,
-    verdict,
+    aired, bad_module, blank, booted, built, formatted, incomplete, installed, loaded, nothing,
+    sampled, unsettled, verdict,
 };
 pub use section_line::shown;
 pub use writing::Line;

@@ -3,6 +3,7 @@ ghost use Rattle.std.specs.Prelude.{◌≡◌, ◌+◌, ◌≤◌, ◌++◌};
 ghost use Rattle.arrayvec.specs.ArrayString.{array_string_len};
 ghost use Rattle.ssu_line.specs.Lines.{loaded_line, installed_line, nothing_line, incomplete_line, bad_module_line};
 ghost use Rattle.ssu_line.specs.Lines.{unsettled_line, built_line, blank_line, formatted_line, booted_line};
+ghost use Rattle.ssu_line.specs.Lines.{aired_line, sampled_line};
 ghost use Rattle.ssu_line.specs.Lines.{software_text, verdict_line};
 
 use crate::writing::{Line, put_count, put_hex_word, put_number};
@@ -109,6 +110,34 @@ pub fn built(sections: u64, packets: u64) -> Line
     put_count(&mut line, sections);
     line.push_str(" packets ");
     put_count(&mut line, packets);
+    line.push_str("\n");
+    line
+}
+
+/// `packets P`: how many packets were written.
+pub fn aired(packets: u64) -> Line
+    ensures { result.bytes ≡ aired_line packets }
+{
+    let mut line = Line::new();
+    line.push_str("packets ");
+    put_count(&mut line, packets);
+    line.push_str("\n");
+    line
+}
+
+/// `sample N modules M bytes L sections S`: the number of the sample, its modules, their bytes in all, and the sections.
+pub fn sampled(number: u32, modules: u32, bytes: u32, sections: u32) -> Line
+    ensures { result.bytes ≡ sampled_line number modules bytes sections }
+{
+    let mut line = Line::new();
+    line.push_str("sample ");
+    put_number(&mut line, number);
+    line.push_str(" modules ");
+    put_number(&mut line, modules);
+    line.push_str(" bytes ");
+    put_number(&mut line, bytes);
+    line.push_str(" sections ");
+    put_number(&mut line, sections);
     line.push_str("\n");
     line
 }

@@ -9,8 +9,8 @@ use Rattle.ssu_answer.specs.declared.chosen.Chosen.{Chosen}
 use Rattle.route_tables.specs.Values.{Receiver}
 use Rattle.ssu_loader.specs.declared.fault.LoadFault.{LoadFault}
 use Rattle.ssu_loader.specs.declared.fault.LoadFault.TheVariants as load_fault
-use Rattle.ssu_loader.specs.declared.verdict.Verdict.{Verdict}
-use Rattle.ssu_loader.specs.declared.verdict.Verdict.TheVariants.{Installed, Nothing, Incomplete, BadModule, Unsettled}
+use Rattle.ssu_answer.specs.declared.verdict.Verdict.{Verdict}
+use Rattle.ssu_answer.specs.declared.verdict.Verdict.TheVariants.{Installed, Nothing, Incomplete, BadModule, Unsettled}
 use Rattle.ssu_loader.specs.Decisions.{Decision, IsOpen, Reaches, TooMany, Whole, Wrong}
 use Rattle.ssu_loader.specs.Faults.{IsOfTaking}
 use Rattle.ssu_loader.specs.Replays.{EndsWith, ReachesNone, heard_in, record_after}

@@ -27,8 +27,8 @@ use Rattle.ssu_route.specs.Route.{Stands}
 use Rattle.ssu_route.specs.Windows.{IsChoice, beginnings, change_at, window}
 use Rattle.ssu_route.proofs.Choices.{none_begins, same_stays}
 use Rattle.ssu_loader.specs.declared.collector.Collector.{Collector}
-use Rattle.ssu_loader.specs.declared.verdict.Verdict.{Verdict}
-use Rattle.ssu_loader.specs.declared.verdict.Verdict.TheVariants.{Installed, Nothing, Incomplete, BadModule, Unsettled}
+use Rattle.ssu_answer.specs.declared.verdict.Verdict.{Verdict}
+use Rattle.ssu_answer.specs.declared.verdict.Verdict.TheVariants.{Installed, Nothing, Incomplete, BadModule, Unsettled}
 use Rattle.ssu_loader.specs.Collecting.{Collects, Gathers, HasFilled, HoldsFilling, IsAhead, Works}
 use Rattle.ssu_loader.specs.Decisions.{IsOpen, IsStanding, Whole, Wrong, chosen_of}
 use Rattle.ssu_loader.specs.Leaving.{Ends, GoesOn, SectionsLeave}

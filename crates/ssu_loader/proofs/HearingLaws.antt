@@ -20,13 +20,13 @@ use Rattle.ssu_answer.specs.declared.chosen.Chosen.{Chosen}
 use Rattle.route_tables.specs.Next.{heard_on}
 use Rattle.route_tables.specs.Values.{Receiver}
 use Rattle.ssu_route.specs.Queries.{after_all}
-use Rattle.ssu_loader.specs.declared.verdict.Verdict.{Verdict}
-use Rattle.ssu_loader.specs.declared.verdict.Verdict.TheVariants.{Installed, Nothing, Incomplete, BadModule, Unsettled}
+use Rattle.ssu_answer.specs.declared.verdict.Verdict.{Verdict}
+use Rattle.ssu_answer.specs.declared.verdict.Verdict.TheVariants.{Installed, Nothing, Incomplete, BadModule, Unsettled}
 use Rattle.ssu_route.proofs.Following.{after_one_more}
 use Rattle.ssu_route.specs.declared.choice.Choice.{Choice}
 use Rattle.ssu_loader.specs.declared.collector.Collector.{Collector}
-use Rattle.ssu_loader.specs.Collecting.{Collects, IsUsable, StopsBefore}
-use Rattle.ssu_loader.specs.Decisions.{IsOpen, TooMany, Whole, Wrong}
+use Rattle.ssu_loader.specs.Collecting.{BeginsTooMany, Collects, IsUsable, StopsBefore}
+use Rattle.ssu_loader.specs.Decisions.{IsOpen, Reaches, TooMany, Whole, Wrong}
 use Rattle.ssu_loader.specs.Leaving.{Ends, GoesOn, IfUnsettled, InstallsChosen, SectionsLeave}
 use Rattle.ssu_loader.proofs.KeepingLaws.{installs_joined, installs_moved, leaves_moved}
 use Rattle.ssu_loader.proofs.LeftLaws.{left_now}
@@ -89,6 +89,26 @@ after_rest pid sections k before =
     ∙ ap (λ (xs : List Heard). xs ++ before) (reverse-append (map (heard_on pid) (take k sections)) (map (heard_on pid) (drop k sections)))
     ∙ append_assoc (reverse (map (heard_on pid) (drop k sections))) (reverse (map (heard_on pid) (take k sections))) before
 
+-- Where the first of them would begin a choice too many, that is decided by it.
+first_decides : (me : Receiver) (pid n : ℕ) (each : List (List ℕ)) (heard : List Heard) → 1 ≤ n → BeginsTooMany me pid each heard → IsOpen me heard → Reaches me (after_all pid (take n each) heard) TooMany
+unfolding Reaches
+first_decides me pid n [] heard some many undecided = absurd many
+first_decides me pid zero (first ∷ others) heard some many undecided = absurd (omega (arith, some))
+first_decides me pid (suc n) (first ∷ others) heard some many undecided =
+    let now : Reaches me (heard_on pid first ∷ heard) TooMany = inr (undecided, many) in
+    subst (λ (items : List Heard). Reaches me items TooMany) (sym (after_rest pid (first ∷ take n others) 1 heard))
+    (reaches_more me (reverse (map (heard_on pid) (take n others))) (heard_on pid first ∷ heard) TooMany now)
+
+-- And then it is the next section, where nothing is decided by those so far.
+first_is_next : (me : Receiver) (pid k : ℕ) (each : List (List ℕ)) (section : List ℕ) (heard : List Heard) → slice_get each k ≡ Some section → BeginsTooMany me pid each heard
+    → IsOpen me heard → IsOpen me (after_all pid (take k each) heard) → IsTrue (is_one_too_many me (heard_on pid section ∷ after_all pid (take k each) heard))
+first_is_next me pid k [] section heard at many before so_far = absurd many
+first_is_next me pid zero (first ∷ others) section heard at many before so_far =
+    let same : first ≡ section = cc in
+    subst (λ (s : List ℕ). IsTrue (is_one_too_many me (heard_on pid s ∷ heard))) same many
+first_is_next me pid (suc k) (first ∷ others) section heard at many before so_far =
+    absurd (so_far TooMany (first_decides me pid (suc k) (first ∷ others) heard (omega arith) many before))
+
 filled_more : (me : Receiver) (later heard : List Heard) (choice : Choice) → IsFilled me heard choice → IsFilled me (later ++ heard) choice
 filled_more me later heard choice is = record {
   later = later ++ is.later;
@@ -124,6 +144,7 @@ module _ {S F : Type 0} (s : StageGhosts S) (f : FlashGhosts F) where
   pub record HeardSoFar (pid : ℕ) (each : List (List ℕ)) (k : ℕ) (old : Collector S) (before : F) (new : Collector S) (now : F) : Type 0 where
     pub collects : (me : Receiver) (heard : List Heard) → Collects s f me heard old before → Collects s f me (after_all pid (take k each) heard) new now
     pub untouched : (me : Receiver) (heard : List Heard) → Collects s f me heard old before → beginnings me (after_all pid (take k each) heard) ≡ 0 → now ≡ before
+    pub alone : (me : Receiver) (heard : List Heard) → Collects s f me heard old before → BeginsTooMany me pid each heard → now ≡ before
     pub bank : SameBank old.bank new.bank
     pub lent : IsLent f.tells f.contents f.block_count f.block_len new.bank now
     pub leaves : f.tells → KeepsBoot (geometry_of old.bank) (f.contents before) (f.contents now)
@@ -137,6 +158,7 @@ module _ {S F : Type 0} (s : StageGhosts S) (f : FlashGhosts F) where
   heard_none only pid each c flash usable = record {
     collects = λ me heard col. col;
     untouched = λ me heard col none. refl;
+    alone = λ me heard col many. refl;
     bank = bank_itself c.bank;
     lent = usable.collects.gathers.lent;
     leaves = λ tells. keeps_boot_same (geometry_of c.bank) (f.contents flash) (usable.collects.gathers.lent.fits tells).sound;
@@ -166,6 +188,10 @@ module _ {S F : Type 0} (s : StageGhosts S) (f : FlashGhosts F) where
           let last : beginnings me (heard_on pid section ∷ items) ≡ 0 = ap (beginnings me) (sym (after_one_more pid each k section heard at)) ∙ none in
           let fewer = began_before me (heard_on pid section) items (change_at me (heard_on pid section) items) refl in
           untouched me items (sofar.collects me heard col) last ∙ sofar.untouched me heard col (omega (arith, fewer, last));
+      alone = λ me heard col many.
+          let after = collects me (earlier heard) (sofar.collects me heard col) in
+          let reached = first_decides me pid (k + 1) each heard (omega arith) many col.gathers.knows.undecided in
+          absurd (after.gathers.knows.undecided TooMany (subst (λ (items : List Heard). Reaches me items TooMany) (after_one_more pid each k section heard at) reached));
       bank = banks_joined old.bank mid.bank new.bank sofar.bank bank;
       lent = lent;
       leaves = λ tells.
@@ -204,6 +230,14 @@ module _ {S F : Type 0} (s : StageGhosts S) (f : FlashGhosts F) where
         let last : beginnings me (heard_on pid section ∷ items) ≡ 0 = omega (arith, fewer, all) in
         let before_it = began_before me (heard_on pid section) items (change_at me (heard_on pid section) items) refl in
         untouched me items (sofar.collects me heard col) last ∙ sofar.untouched me heard col (omega (arith, before_it, last))
+
+    -- where the first section would begin a choice too many
+    pub heard_alone : ((me : Receiver) (heard : List Heard) → Collects s f me heard mid between → IsTrue (is_one_too_many me (heard_on pid section ∷ heard)) → now ≡ between)
+        → (me : Receiver) (heard : List Heard) → Collects s f me heard old before → BeginsTooMany me pid each heard → now ≡ before
+    heard_alone same me heard col many =
+        let so_far = sofar.collects me heard col in
+        same me (earlier heard) so_far (first_is_next me pid k each section heard at many col.gathers.knows.undecided so_far.gathers.knows.undecided)
+        ∙ sofar.alone me heard col many
 
     -- what is seen at the next section
     pub heard_seen : (me : Receiver) (heard : List Heard) (answer : Option Verdict) (v : Verdict) → answer ≡ Some v → IsSeen me (heard_on pid section ∷ earlier heard) answer → IsSeen me (after_all pid each heard) (Some v)

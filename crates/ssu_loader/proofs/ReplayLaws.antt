@@ -10,7 +10,7 @@ use Rattle.ssu_io.specs.Seen.{SourceSeen}
 use Rattle.ts_input.specs.Packets.{IsOneMore, IsWithin}
 use Rattle.ssu_loader.specs.declared.fault.LoadFault.{LoadFault}
 use Rattle.ssu_loader.specs.declared.fault.LoadFault.TheVariants.{Geometry, FlashFault, Foreign, Worn, Memory, ReadFault, TooLong}
-use Rattle.ssu_loader.specs.declared.verdict.Verdict.{Verdict}
+use Rattle.ssu_answer.specs.declared.verdict.Verdict.{Verdict}
 use Rattle.ssu_loader.specs.Faults.{IsOfOpening, IsOfTaking, opening_fault, WhereInLimits, WhereNotWorn, WhereSound}
 use Rattle.ssu_loader.specs.Replaying.{Breaks, Fails, IsCutShort, IsNotBegun, IsReady}
 

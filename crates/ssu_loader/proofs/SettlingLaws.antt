@@ -20,8 +20,8 @@ use Rattle.ssu_group.specs.Map.{missing_below}
 use Rattle.ssu_group.proofs.MapLaws.{all_marked, missing_same}
 use Rattle.ssu_route.specs.declared.choice.Choice.{Choice}
 use Rattle.ssu_loader.specs.declared.wrong.Wrong.{Wrong}
-use Rattle.ssu_loader.specs.declared.verdict.Verdict.{Verdict}
-use Rattle.ssu_loader.specs.declared.verdict.Verdict.TheVariants.{Installed, Nothing, Incomplete, BadModule, Unsettled}
+use Rattle.ssu_answer.specs.declared.verdict.Verdict.{Verdict}
+use Rattle.ssu_answer.specs.declared.verdict.Verdict.TheVariants.{Installed, Nothing, Incomplete, BadModule, Unsettled}
 use Rattle.ssu_loader.specs.Decisions.{HasWrong}
 use Rattle.ssu_loader.specs.Settling.{InstallsWhole, IsWrongOf, Settles, SettlingLeaves, is_wrong}
 use Rattle.ssu_loader.proofs.FillingLaws.{text_filled}

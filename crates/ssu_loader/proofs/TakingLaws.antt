@@ -3,10 +3,10 @@ use Rattle.std.proofs.Common.{◌≡◌, inl, inr, ⊎_elim, ℕ, ◌+◌, ◌*�
 use Rattle.std.proofs.lemmas.List.{reverse-append}
 use Rattle.ssu_io.specs.Bytes.{Takes}
 use Rattle.ssu_io.proofs.BytesLemmas.{Takes_none, Takes_join}
-use Rattle.ts_input.specs.Packets.{packets, IsAtEnd, IsOneMore, IsWithin}
-use Rattle.ts_input.specs.Next.{TakesFewer}
-use Rattle.ts_input.specs.Behind.{TakesOne}
-use Rattle.ts_input.proofs.PacketLemmas.{packets_more, packets_end, packets_of_rest}
+use Rattle.ts_input.specs.Input.{TakesOne, TakesPackets, TakesRest}
+use Rattle.ts_input.specs.Packets.{packets, most_packets, IsAtEnd, IsOneMore, IsWithin}
+use Rattle.ts_input.proofs.InputLemmas.{byte_taken, nothing_taken, rest_taken}
+use Rattle.ts_input.proofs.PacketLemmas.{packets_more, packets_of_rest}
 use Rattle.ts_section.specs.Events.{Heard}
 use Rattle.flash_dev.specs.declared.device.Flash.{Ghosts as FlashGhosts}
 use Rattle.flash_dev.specs.Moments.{LeavesOnly}
@@ -23,8 +23,8 @@ use Rattle.route_tables.specs.Values.{Receiver}
 use Rattle.ssu_route.specs.Queries.{heard_by}
 use Rattle.ssu_route.specs.Windows.{beginnings}
 use Rattle.ssu_loader.specs.declared.loader.Loader.{Loader}
-use Rattle.ssu_loader.specs.declared.verdict.Verdict.{Verdict}
-use Rattle.ssu_loader.specs.declared.verdict.Verdict.TheVariants.{Installed, Nothing, Incomplete, BadModule, Unsettled}
+use Rattle.ssu_answer.specs.declared.verdict.Verdict.{Verdict}
+use Rattle.ssu_answer.specs.declared.verdict.Verdict.TheVariants.{Installed, Nothing, Incomplete, BadModule, Unsettled}
 use Rattle.ssu_loader.specs.Decisions.{IsOpen, Reaches, TooMany, Whole, Wrong}
 use Rattle.ssu_loader.specs.Collecting.{StopsBefore}
 use Rattle.ssu_loader.specs.Leaving.{Ends, IfUnsettled, InstallsChosen, SectionsLeave}
@@ -49,9 +49,6 @@ newest_none = ap reverse (packets_of_rest [] (omega arith))
 
 newest_more : (taken packet : List ℕ) (count : ℕ) → length taken ≡ 188 * count → length packet ≡ 188 → newest_packets (taken ++ packet) ≡ packet ∷ newest_packets taken
 newest_more taken packet count whole one = ap reverse (packets_more taken packet count whole one) ∙ reverse-append (packets taken) (packet ∷ [])
-
-newest_rest : (taken rest : List ℕ) (count : ℕ) → length taken ≡ 188 * count → length rest < 188 → newest_packets (taken ++ rest) ≡ newest_packets taken
-newest_rest taken rest count whole short = ap reverse (packets_end taken rest count whole short)
 
 heard_is : (me : Receiver) (taken : List ℕ) → heard_in me taken ≡ heard_by me (newest_packets taken)
 unfolding heard_in
@@ -189,39 +186,27 @@ module _ {S F : Type 0} (s : StageGhosts S) (f : FlashGhosts F) (count : ℕ) (f
   pub open_now : (me : Receiver) → Follows s f me [] first old → IsOpen me (heard_by me (newest_packets so_far.taken))
   open_now me follows = is_open s f me (newest_packets so_far.taken) now mid (so_far.follows me follows)
 
-  -- the sections that were heard, where a rest came that is no packet
-  heard_rest : (me : Receiver) (rest : List ℕ) (Now : List Heard → Type 0) → length rest < 188 → Now (heard_by me (newest_packets so_far.taken)) → Now (heard_in me (so_far.taken ++ rest))
-  heard_rest me rest Now short =
-      subst Now (sym (heard_is me (so_far.taken ++ rest) ∙ ap (heard_by me) (newest_rest so_far.taken rest count so_far.whole short)))
+  -- No packet came any more, and then nothing: these packets were taken.
+  pub ended_within : (left_then left_last : Option (List ℕ)) → TakesRest count left_now left_then → Takes left_then left_last []
+      → TakesPackets IsWithin left left_last (packets so_far.taken)
+  ended_within left_then left_last rest nothing =
+      nothing_taken IsWithin left left_then left_last (packets so_far.taken)
+      (rest_taken count left left_now left_then so_far.taken so_far.takes so_far.whole rest) nothing
 
-  -- at a rest that is no packet
-  pub at_rest : (me : Receiver) (left_then : Option (List ℕ)) (Now : List Heard → Type 0) → TakesFewer left_now left_then 188 → count < 16777216
-      → Now (heard_by me (newest_packets so_far.taken)) → HearsIn me left left_then IsWithin Now
-  at_rest me left_then Now rest few now = record {
-    taken = so_far.taken ++ rest.rest;
-    takes = Takes_join left left_now left_then so_far.taken rest.rest so_far.takes rest.takes;
-    bytes = omega (arith, length-append so_far.taken rest.rest, so_far.whole, rest.fewer, few);
-    now = heard_rest me rest.rest Now rest.fewer now;
-  }
+  -- the greatest number of packets, and one byte behind them
+  pub ended_too_long : (left_then left_last : Option (List ℕ)) → TakesRest count left_now left_then → count ≡ most_packets → TakesOne left_then left_last
+      → TakesPackets IsOneMore left left_last (packets so_far.taken)
+  ended_too_long left_then left_last rest most last =
+      byte_taken count left left_now left_then left_last so_far.taken so_far.takes so_far.whole rest most last
 
-  -- behind the greatest number of packets, where no byte came
-  pub at_most : (me : Receiver) (left_then : Option (List ℕ)) (Now : List Heard → Type 0) → TakesFewer left_now left_then 1 → count ≡ 16777216
-      → Now (heard_by me (newest_packets so_far.taken)) → HearsIn me left left_then IsWithin Now
-  at_most me left_then Now rest most now = record {
-    taken = so_far.taken ++ rest.rest;
-    takes = Takes_join left left_now left_then so_far.taken rest.rest so_far.takes rest.takes;
-    bytes = omega (arith, length-append so_far.taken rest.rest, so_far.whole, rest.fewer, most);
-    now = heard_rest me rest.rest Now (omega (arith, rest.fewer)) now;
-  }
-
-  -- and where one byte came
-  pub at_one_more : (me : Receiver) (left_then : Option (List ℕ)) (Now : List Heard → Type 0) → TakesOne left_now left_then → count ≡ 16777216
-      → Now (heard_by me (newest_packets so_far.taken)) → HearsIn me left left_then IsOneMore Now
-  at_one_more me left_then Now last most now = record {
-    taken = so_far.taken ++ last.byte;
-    takes = Takes_join left left_now left_then so_far.taken last.byte so_far.takes last.takes;
-    bytes = omega (arith, length-append so_far.taken last.byte, so_far.whole, last.one, most);
-    now = heard_rest me last.byte Now (omega (arith, last.one)) now;
+  -- where no packet comes any more
+  pub at_end : (me : Receiver) (left_last : Option (List ℕ)) (Length : ℕ → Type 0) (Now : List Heard → Type 0) → TakesPackets Length left left_last (packets so_far.taken)
+      → Now (heard_by me (newest_packets so_far.taken)) → HearsIn me left left_last Length Now
+  at_end me left_last Length Now all now = record {
+    taken = all.taken;
+    takes = all.takes;
+    bytes = all.size;
+    now = subst Now (sym (heard_is me all.taken ∙ ap (λ (ps : List (List ℕ)). heard_by me (reverse ps)) all.all)) now;
   }
 
   -- ---- an answer at a packet

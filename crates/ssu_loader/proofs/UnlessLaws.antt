@@ -1,7 +1,7 @@
 -- What an answer says, unless a group was installed.
 use Rattle.std.specs.Prelude.{IfNone, IfOk, None, Ok, Err, Option, Result, Some}
-use Rattle.ssu_loader.specs.declared.verdict.Verdict.{Verdict}
-use Rattle.ssu_loader.specs.declared.verdict.Verdict.TheVariants.{Installed, Nothing, Incomplete, BadModule, Unsettled}
+use Rattle.ssu_answer.specs.declared.verdict.Verdict.{Verdict}
+use Rattle.ssu_answer.specs.declared.verdict.Verdict.TheVariants.{Installed, Nothing, Incomplete, BadModule, Unsettled}
 use Rattle.ssu_loader.specs.Leaving.{UnlessInstalled}
 
 pub unless_none : {E : Type 0} (r : Result (Option Verdict) E) (P : Type 0) → UnlessInstalled r P → IfOk r (λ o. IfNone o P)

@@ -1,6 +1,6 @@
 -- What the collector of a group stands for: the sections that the box heard, the newest first. What is staged is seen by the
 -- words of the stage, and what the flash holds by those of the flash.
-use Rattle.std.specs.Prelude.{◌≡◌, ℕ, ◌<◌, ◌≤◌, List, ◌∷◌, ◌++◌, Some, is_some, IsTrue}
+use Rattle.std.specs.Prelude.{◌≡◌, ℕ, ◌<◌, ◌≤◌, List, [], ◌∷◌, ◌++◌, Some, is_some, IsTrue}
 use Rattle.flash_dev.specs.declared.device.Flash.{Ghosts as FlashGhosts}
 use Rattle.flash_bank.specs.Bank.{IsLent, current_of, len_of}
 use Rattle.flash_bank.specs.declared.bank.Bank.{Bank}
@@ -9,6 +9,7 @@ use Rattle.flash_stage.specs.Outline.{outline_of}
 use Rattle.ts_section.specs.Events.{Heard}
 use Rattle.ssu_group.specs.declared.group_plan.GroupPlan.{GroupPlan}
 use Rattle.ssu_group.specs.Carried.{filling}
+use Rattle.route_tables.specs.Next.{heard_on}
 use Rattle.route_tables.specs.Values.{Receiver}
 use Rattle.ssu_route.specs.declared.change.Change.{Change}
 use Rattle.ssu_route.specs.declared.choice.Choice.{Choice}
@@ -48,7 +49,8 @@ pub record Knows {S : Type 0} (s : StageGhosts S) (me : Receiver) (heard : List 
 
 -- Bank and stage may go on with this flash. Nothing is decided by these sections, and the places that are staged are those that
 -- the window of the choice fills; where contents are told, each has the bytes of the first block that fills it.
-pub record Gathers {S F : Type 0} (s : StageGhosts S) (f : FlashGhosts F) (me : Receiver) (heard : List Heard) (c : Collector S) (flash : F) : Type 0 where
+pub record Gathers {S F : Type 0} (s : StageGhosts S) (f : FlashGhosts F) (me : Receiver) (heard : List Heard) (c : Collector S)
+    (flash : F) : Type 0 where
   pub len : me.bank_len ≡ len_of c.bank
   pub runs : me.running ≡ (current_of c.bank).software
   pub lent : IsLent f.tells f.contents f.block_count f.block_len c.bank flash
@@ -59,12 +61,14 @@ pub record Gathers {S F : Type 0} (s : StageGhosts S) (f : FlashGhosts F) (me : 
   pub told : f.tells → (choice : Choice) → IsChoice me heard choice → HoldsFilling s choice.plan (window me heard) c.stage c.bank (f.contents flash)
 
 -- The route stands for these sections too.
-pub record Collects {S F : Type 0} (s : StageGhosts S) (f : FlashGhosts F) (me : Receiver) (heard : List Heard) (c : Collector S) (flash : F) : Type 0 where
+pub record Collects {S F : Type 0} (s : StageGhosts S) (f : FlashGhosts F) (me : Receiver) (heard : List Heard) (c : Collector S)
+    (flash : F) : Type 0 where
   pub stands : Stands me heard c.route
   pub gathers : Gathers s f me heard c flash
 
 -- The route has heard one section more, at which this changed.
-pub record IsAhead {S F : Type 0} (s : StageGhosts S) (f : FlashGhosts F) (me : Receiver) (item : Heard) (heard : List Heard) (change : Change) (c : Collector S) (flash : F) : Type 0 where
+pub record IsAhead {S F : Type 0} (s : StageGhosts S) (f : FlashGhosts F) (me : Receiver) (item : Heard) (heard : List Heard)
+    (change : Change) (c : Collector S) (flash : F) : Type 0 where
   pub stands : Stands me (item ∷ heard) c.route
   pub changes : change_at me item heard ≡ change
   pub gathers : Gathers s f me heard c flash
@@ -82,6 +86,11 @@ pub record IsUsableAt {S F : Type 0} (s : StageGhosts S) (f : FlashGhosts F) (ch
   pub ahead : IsAhead s f me item heard change c flash
 
 -- ---- one choice too many
+
+-- The first of these sections, which come on this PID, would begin a choice too many.
+abbrev pub BeginsTooMany : Receiver → ℕ → List (List ℕ) → List Heard → Type 0
+BeginsTooMany me pid [] heard = ⊥
+BeginsTooMany me pid (first ∷ others) heard = IsTrue (is_one_too_many me (heard_on pid first ∷ heard))
 
 -- At one of these sections a choice too many would begin. The flash is as a collector may have left it that stands for the
 -- sections before it.

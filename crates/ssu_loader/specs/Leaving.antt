@@ -8,8 +8,8 @@ use Rattle.flash_bank.specs.declared.bank.Bank.{Bank}
 use Rattle.ts_section.specs.Events.{Heard}
 use Rattle.ssu_answer.specs.declared.chosen.Chosen.{Chosen}
 use Rattle.route_tables.specs.Values.{Receiver}
-use Rattle.ssu_loader.specs.declared.verdict.Verdict.{Verdict}
-use Rattle.ssu_loader.specs.declared.verdict.Verdict.TheVariants.{Installed, Unsettled}
+use Rattle.ssu_answer.specs.declared.verdict.Verdict.{Verdict}
+use Rattle.ssu_answer.specs.declared.verdict.Verdict.TheVariants.{Installed, Unsettled}
 use Rattle.ssu_loader.specs.Decisions.{Reaches, Whole}
 use Rattle.ssu_loader.specs.Verdicts.{IsReached}
 

@@ -14,8 +14,8 @@ use Rattle.route_tables.specs.Values.{Receiver}
 use Rattle.ssu_loader.specs.declared.fault.LoadFault.{LoadFault}
 use Rattle.ssu_loader.specs.declared.fault.LoadFault.TheVariants as load_fault
 use Rattle.ssu_loader.specs.declared.fault.LoadFault.TheVariants.{FlashFault, Foreign, Worn, Memory, ReadFault, TooLong}
-use Rattle.ssu_loader.specs.declared.verdict.Verdict.{Verdict}
-use Rattle.ssu_loader.specs.declared.verdict.Verdict.TheVariants.{Installed}
+use Rattle.ssu_answer.specs.declared.verdict.Verdict.{Verdict}
+use Rattle.ssu_answer.specs.declared.verdict.Verdict.TheVariants.{Installed}
 use Rattle.ssu_loader.specs.Replays.{BeginsNone, BreaksAtPacket, CarriesFirst, ComesSeen, EndsWith, ReachesNone, ReplayLeaves, record_after}
 use Rattle.ssu_loader.specs.Verdicts.{receiver_of}
 

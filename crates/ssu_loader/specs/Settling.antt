@@ -13,14 +13,15 @@ use Rattle.ssu_group.specs.declared.module_plan.ModulePlan.{ModulePlan}
 use Rattle.ssu_group.specs.Carried.{CarriesWhole, is_right, module_bytes}
 use Rattle.ssu_route.specs.declared.choice.Choice.{Choice}
 use Rattle.ssu_loader.specs.declared.wrong.Wrong.{Wrong}
-use Rattle.ssu_loader.specs.declared.verdict.Verdict.{Verdict}
-use Rattle.ssu_loader.specs.declared.verdict.Verdict.TheVariants.{Installed, BadModule}
+use Rattle.ssu_answer.specs.declared.verdict.Verdict.{Verdict}
+use Rattle.ssu_answer.specs.declared.verdict.Verdict.TheVariants.{Installed, BadModule}
 use Rattle.ssu_loader.specs.Decisions.{HasWrong, chosen_of}
 
 -- ---- reading what is staged
 
 -- The stage, the bank and the flash were only read.
-pub record Stays {S F : Type 0} (s : StageGhosts S) (f : FlashGhosts F) (stage : S) (bank : Bank) (flash : F) (stage_after : S) (bank_after : Bank) (flash_after : F) : Type 0 where
+pub record Stays {S F : Type 0} (s : StageGhosts S) (f : FlashGhosts F) (stage : S) (bank : Bank) (flash : F)
+    (stage_after : S) (bank_after : Bank) (flash_after : F) : Type 0 where
   pub has : (n : ℕ) → s.has stage_after n ≡ s.has stage n
   pub bytes : f.tells → (n : ℕ) → s.bytes_at stage_after bank_after (f.contents flash_after) n ≡ s.bytes_at stage bank (f.contents flash) n
   pub same_bank : SameBank bank bank_after

@@ -11,8 +11,8 @@ use Rattle.route_tables.specs.Values.{Receiver}
 use Rattle.ssu_route.specs.declared.choice.Choice.{Choice}
 use Rattle.ssu_route.specs.Queries.{missing}
 use Rattle.ssu_route.specs.Windows.{standing, window}
-use Rattle.ssu_loader.specs.declared.verdict.Verdict.{Verdict}
-use Rattle.ssu_loader.specs.declared.verdict.Verdict.TheVariants.{Installed, Nothing, Incomplete, BadModule, Unsettled}
+use Rattle.ssu_answer.specs.declared.verdict.Verdict.{Verdict}
+use Rattle.ssu_answer.specs.declared.verdict.Verdict.TheVariants.{Installed, Nothing, Incomplete, BadModule, Unsettled}
 use Rattle.ssu_loader.specs.Decisions.{IsStanding, IsOpen, Reaches, Whole, Wrong, TooMany, chosen_of}
 
 -- The box of this file with a bank of this length, while this software runs.

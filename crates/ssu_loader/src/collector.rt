@@ -13,16 +13,16 @@ ghost use Rattle.ssu_route.specs.declared.change.Change.TheVariants as change;
 ghost use Rattle.ssu_route.specs.Route.{Stands};
 ghost use Rattle.ssu_loader.specs.Leaving.{GoesOn, SectionsLeave, UnlessInstalled};
 ghost use Rattle.ssu_route.specs.Windows.{beginnings, is_one_too_many};
-ghost use Rattle.ssu_loader.specs.declared.verdict.Verdict.TheVariants as verdict;
+ghost use Rattle.ssu_answer.specs.declared.verdict.Verdict.TheVariants as verdict;
 ghost use Rattle.ssu_loader.specs.Verdicts.{IsSeen, IsVerdict};
 
 use crate::gather::{gather, start};
 use crate::settle::chosen;
-use crate::verdict::Verdict;
 use flash_bank::{Bank, FlashFault};
 use flash_dev::Flash;
 use flash_stage::Stage;
-use ssu_route::{Change, Route};
+use ssu_answer::Verdict;
+use ssu_route::{Change, HeapRoute};
 use ts_packet::Pid;
 
 /// The most choices of one replay.
@@ -33,7 +33,7 @@ const MAX_CHOICES: u32 = 16;
 pub(crate) struct Collector<S> {
     pub(crate) bank: Bank,
     pub(crate) stage: S,
-    pub(crate) route: Route,
+    pub(crate) route: HeapRoute,
     /// How many choices began.
     pub(crate) choices: u32,
 }

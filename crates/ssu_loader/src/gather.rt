@@ -15,10 +15,10 @@ ghost use Rattle.ssu_loader.specs.Verdicts.{IsOn};
 
 use crate::blocks::take_block;
 use crate::settle::settle;
-use crate::verdict::Verdict;
 use flash_bank::{Bank, FlashFault};
 use flash_dev::Flash;
 use flash_stage::Stage;
+use ssu_answer::Verdict;
 use ssu_group::GroupPlan;
 use ssu_route::Choice;
 

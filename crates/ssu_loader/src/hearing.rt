@@ -8,16 +8,16 @@ ghost use Rattle.ssu_io.specs.Faults.{HasCause};
 ghost use Rattle.ts_section.specs.Events.{Heard};
 ghost use Rattle.route_tables.specs.Values.{Receiver};
 ghost use Rattle.ssu_route.specs.Queries.{after_all};
-ghost use Rattle.ssu_loader.specs.Collecting.{Collects, IsUsable, StopsBefore};
+ghost use Rattle.ssu_loader.specs.Collecting.{BeginsTooMany, Collects, IsUsable, StopsBefore};
 ghost use Rattle.ssu_route.specs.Windows.{beginnings};
 ghost use Rattle.ssu_loader.specs.Leaving.{GoesOn, IfUnsettled, SectionsLeave, UnlessInstalled};
 ghost use Rattle.ssu_loader.specs.Verdicts.{IsSeen};
 
 use crate::collector::Collector;
-use crate::verdict::Verdict;
 use flash_bank::FlashFault;
 use flash_dev::Flash;
 use flash_stage::Stage;
+use ssu_answer::Verdict;
 use ts_packet::Pid;
 use ts_section::SectionOut;
 
@@ -42,6 +42,9 @@ pub(crate) fn hear_each<S: Stage, F: Flash>(
         (SectionsLeave me (after_all pid each.now heard) collector.old.bank (F.contents flash.old)) }
     ensures untouched { (me : Receiver) (heard : List Heard) → Collects S.Stage F.Flash me heard collector.old flash.old
         → beginnings me (after_all pid each.now heard) ≡ 0 → flash.new ≡ flash.old }
+    // Where the first of them would begin a choice too many, the flash is not called.
+    ensures alone { (me : Receiver) (heard : List Heard) → Collects S.Stage F.Flash me heard collector.old flash.old
+        → BeginsTooMany me pid each.now heard → flash.new ≡ flash.old }
     ensures too_many { (me : Receiver) (heard : List Heard) → Collects S.Stage F.Flash me heard collector.old flash.old
         → IfOk result (λ answer. IfUnsettled answer (StopsBefore S.Stage F.Flash me (after_all pid each.now heard) flash.new)) }
     ensures same_bank { UnlessInstalled result (SameBank collector.old.bank collector.new.bank) }

@@ -11,12 +11,10 @@ mod laws;
 mod loader;
 mod replaying;
 mod settle;
-mod verdict;
 mod wrong;
 
 pub use fault::LoadFault;
 pub use laws::{decisions_are_one, packets_go_on};
 pub use loader::Loader;
 pub use replaying::replay;
-pub use ssu_answer::{Chosen, Level};
-pub use verdict::Verdict;
+pub use ssu_answer::{Chosen, Level, Verdict};

@@ -9,12 +9,14 @@ ghost use Rattle.flash_bank.specs.Sound.{IsSound, IsWorn};
 ghost use Rattle.flash_stage.specs.Leaving.{SameBank};
 ghost use Rattle.ssu_io.specs.Faults.{HasCause, Rose};
 ghost use Rattle.route_tables.specs.Values.{Receiver};
-ghost use Rattle.ssu_route.specs.Queries.{heard_by};
+ghost use Rattle.ts_packet.specs.Packet.{pid_of as pid_in};
+ghost use Rattle.ts_section.specs.Events.{Feed, heard as brought};
+ghost use Rattle.ssu_route.specs.Queries.{followed, heard_by};
 ghost use Rattle.ssu_answer.specs.declared.chosen.Chosen.{Chosen};
-ghost use Rattle.ssu_loader.specs.Collecting.{StopsBefore};
+ghost use Rattle.ssu_loader.specs.Collecting.{BeginsTooMany, StopsBefore};
 ghost use Rattle.ssu_loader.specs.Decisions.{Reaches, Whole};
 ghost use Rattle.ssu_loader.specs.declared.fault.LoadFault.TheVariants as load_fault;
-ghost use Rattle.ssu_loader.specs.declared.verdict.Verdict.TheVariants as verdict;
+ghost use Rattle.ssu_answer.specs.declared.verdict.Verdict.TheVariants as verdict;
 ghost use Rattle.ssu_loader.specs.Faults.{IsOfOpening, WhereInLimits, WhereNotWorn, WhereSound};
 ghost use Rattle.ssu_loader.specs.Leaving.{GoesOn, IfUnsettled, SectionsLeave, UnlessInstalled};
 ghost use Rattle.ssu_loader.specs.Storing.{Stores};
@@ -24,12 +26,12 @@ ghost use Rattle.ssu_loader.specs.Verdicts.{IsSeen, IsVerdict};
 use crate::collector::Collector;
 use crate::fault::LoadFault;
 use crate::hearing::hear_each;
-use crate::verdict::Verdict;
 use box_file::BoxFile;
 use flash_bank::{Bank, FlashFault};
 use flash_dev::Flash;
 use flash_stage::Stage;
-use ssu_route::Route;
+use ssu_answer::Verdict;
+use ssu_route::HeapRoute;
 use std::alloc::Global;
 use ts_packet::{Packet, pid_of};
 use ts_section::{Hearer, SectionOut};
@@ -106,7 +108,10 @@ impl<S: Stage> Loader<S> {
         // Before any choice began, the flash is not called.
         ensures untouched { (me : Receiver) (ps : List (List ℕ)) → Follows S.Stage F.Flash me ps self.old flash.old
             → beginnings me (heard_by me (packet.now ∷ ps)) ≡ 0 → flash.new ≡ flash.old }
-        // At a choice too many it is not called: it is as it was when the section before was heard.
+        // At a section that would begin a choice too many it is not called. Where that is the first that the packet brings, it is as
+        // before; else it is as it was when the section before was heard.
+        ensures alone { (me : Receiver) (ps : List (List ℕ)) → Follows S.Stage F.Flash me ps self.old flash.old
+            → BeginsTooMany me (pid_in packet.now) (brought (Feed packet.now ∷ followed me ps)) (heard_by me ps) → flash.new ≡ flash.old }
         ensures too_many { (me : Receiver) (ps : List (List ℕ)) → Follows S.Stage F.Flash me ps self.old flash.old
             → IfOk result (λ answer. IfUnsettled answer (StopsBefore S.Stage F.Flash me (heard_by me (packet.now ∷ ps)) flash.new)) }
         // While no verdict is reached, a stage in the bank has the places of the choice that stands there.
@@ -144,7 +149,7 @@ impl<S: Stage> Loader<S> {
         let stage = S::make(alloc, &bank)?;
         let mut hearer = Hearer::new(alloc)?;
         let each = SectionOut::new(alloc)?;
-        let route = Route::new(me, bank.bank_len());
+        let route = HeapRoute::new(alloc, me, bank.bank_len())?;
         let pids = route.listens();
         hearer.listen(&pids);
         Ok(Loader {

@@ -16,14 +16,13 @@ ghost use Rattle.ssu_loader.specs.Replays.{BeginsNone, BreaksAtPacket, ComesSeen
 
 use crate::fault::LoadFault;
 use crate::loader::Loader;
-use crate::verdict::Verdict;
 use box_file::BoxFile;
 use flash_dev::Flash;
 use flash_stage::Stage;
+use ssu_answer::Verdict;
 use ssu_io::Source;
 use std::alloc::Global;
-use ts_input::{Behind, MAX_PACKETS, Next, behind_last, next_packet};
-use ts_packet::PACKET_LEN;
+use ts_input::{Ended, PacketInput};
 
 /// Replays the packets of the source to a box, up to a verdict or to the end. A rest of fewer than 188 bytes is no packet.
 ///
@@ -78,22 +77,17 @@ fn take_packets<A: Source, F: Flash, S: Stage>(
     ensures blocks { F.block_count flash.new ≡ F.block_count flash.old }
     ensures block_size { F.block_len flash.new ≡ F.block_len flash.old }
 {
-    let mut packet = [0; PACKET_LEN];
-    for _taken in 0..MAX_PACKETS {
-        match next_packet(air, &mut packet) {
-            Next::Packet => {}
-            Next::End => return Ok(loader.end()),
-            Next::Failed => return Err(LoadFault::ReadFault),
-        }
-        match loader.packet(flash, &packet) {
+    let mut input = PacketInput::new();
+    while input.next(air) {
+        match loader.packet(flash, input.packet()) {
             Ok(None) => {}
             Ok(Some(verdict)) => return Ok(verdict),
             Err(_) => return Err(LoadFault::FlashFault),
         }
     }
-    match behind_last(air) {
-        Behind::Nothing => Ok(loader.end()),
-        Behind::More => Err(LoadFault::TooLong),
-        Behind::Failed => Err(LoadFault::ReadFault),
+    match input.ended(air) {
+        Ended::End => Ok(loader.end()),
+        Ended::Failed => Err(LoadFault::ReadFault),
+        Ended::TooLong => Err(LoadFault::TooLong),
     }
 }

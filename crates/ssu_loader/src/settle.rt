@@ -13,12 +13,11 @@ ghost use Rattle.ssu_loader.specs.Leaving.{UnlessInstalled};
 ghost use Rattle.ssu_loader.specs.Settling.{Settles, SettlingLeaves};
 ghost use Rattle.ssu_loader.specs.Verdicts.{IsOn};
 
-use crate::verdict::Verdict;
 use crate::wrong::first_wrong;
 use flash_bank::{Bank, FlashFault};
 use flash_dev::Flash;
 use flash_stage::Stage;
-use ssu_answer::Chosen;
+use ssu_answer::{Chosen, Verdict};
 use ssu_route::Choice;
 
 /// Decides on the group of the choice once no place of it is missing: it is installed, or a module of it is wrong.

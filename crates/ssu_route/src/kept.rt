@@ -99,6 +99,7 @@ impl Kept {
     }
 
     /// Chooses the group of the DII.
+    #[inline]
     fn choose(&mut self, dii: &Dii<'_>, plan: GroupPlan) -> Change
         requires { length dii.now.message ≤ 4096 }
         ensures { Chooses dii.now plan self.old self.new result }
@@ -115,6 +116,7 @@ impl Kept {
     }
 
     /// Chooses the group of the DII, if it is the wanted one.
+    #[inline]
     fn choose_if_wanted(&mut self, dii: &Dii<'_>, plan: GroupPlan) -> Change
         requires { length dii.now.message ≤ 4096 }
         ensures first { is_first dii.now.transaction self.old.groups.items ≡ true → Chooses dii.now plan self.old self.new result }

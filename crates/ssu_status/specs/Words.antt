@@ -4,7 +4,7 @@ use Rattle.std.specs.Prelude.{◌≡◌, ℕ, ◌<◌, ◌≤◌, List, [], ◌�
 use Rattle.ssu_io.specs.FileName.{is_file_name}
 use Rattle.ssu_status.specs.declared.command.Command.{Command}
 use Rattle.ssu_status.specs.declared.command.Command.TheVariants.{Hear, Load, Find, Show, Build, Blank, Format, Boot}
-use Rattle.ssu_status.specs.declared.command.Command.TheVariants.{Replay}
+use Rattle.ssu_status.specs.declared.command.Command.TheVariants.{Replay, Air}
 
 -- What the words ask for. A file is given by its name.
 pub data Task : Type 0 where
@@ -17,6 +17,7 @@ pub data Task : Type 0 where
   ToFormat : List ℕ → Task
   ToBoot : Task
   ToReplay : Task
+  ToAir : Task
 
 abbrev pub task_of : Command → Task
 task_of (Hear pid) = ToHear pid
@@ -28,6 +29,7 @@ task_of (Blank blocks) = ToBlank blocks
 task_of (Format name) = ToFormat name.bytes
 task_of Boot = ToBoot
 task_of Replay = ToReplay
+task_of Air = ToAir
 
 -- the words behind the folder
 abbrev pub words_of : Task → List (List ℕ)
@@ -40,6 +42,7 @@ words_of (ToBlank blocks) = codes "blank" ∷ decimal blocks ∷ []
 words_of (ToFormat name) = codes "format" ∷ name ∷ []
 words_of ToBoot = codes "boot" ∷ []
 words_of ToReplay = codes "replay" ∷ []
+words_of ToAir = codes "air" ∷ []
 
 -- PIDs are below 8192, a flash has 4 to 65,536 blocks, and the name of a file has its form.
 abbrev pub IsInRange : Task → Type 0
@@ -52,6 +55,7 @@ IsInRange (ToBlank blocks) = (4 ≤ blocks) × (blocks ≤ 65536)
 IsInRange (ToFormat name) = IsTrue (is_file_name name)
 IsInRange ToBoot = Unit {0}
 IsInRange ToReplay = Unit {0}
+IsInRange ToAir = Unit {0}
 
 -- the words are a folder and what asks for this
 pub record IsCommandLine (words : List (List ℕ)) (task : Task) : Type 0 where
@@ -70,6 +74,7 @@ file_made_by (ToBlank blocks) = codes "flash.bin"
 file_made_by (ToFormat name) = []
 file_made_by ToBoot = codes "image.bin"
 file_made_by ToReplay = []
+file_made_by ToAir = codes "aired.ts"
 
 -- the words are a command line that makes this file, or they make none
 pub record MakesFile (words : List (List ℕ)) (name : List ℕ) : Type 0 where

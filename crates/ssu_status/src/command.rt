@@ -30,6 +30,8 @@ pub enum Command {
     Boot,
     /// `replay`: the packets of `air.ts` to the loader of the box.
     Replay,
+    /// `air`: the packets of `air.ts` through a script.
+    Air,
 }
 
 impl Command {
@@ -60,6 +62,7 @@ impl Command {
             Command::Build => named("air.ts"),
             Command::Blank(_) => named("flash.bin"),
             Command::Boot => named("image.bin"),
+            Command::Air => named("aired.ts"),
         }
     }
 }
@@ -84,6 +87,7 @@ fn alone(command: &str) -> Option<Command>
         "build" => Some(Command::Build),
         "boot" => Some(Command::Boot),
         "replay" => Some(Command::Replay),
+        "air" => Some(Command::Air),
         _ => None,
     }
 }

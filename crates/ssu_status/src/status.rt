@@ -20,7 +20,7 @@ pub enum Status {
     Usage,
     /// The first bad field of `box.toml`.
     BoxRefused(FieldName),
-    /// The first bad field of `plan.toml`.
+    /// The first bad field of `plan.toml`, or of `script.toml` with `script.` before it.
     PlanRefused(FieldName),
     /// The contents of the flash are not sound.
     Foreign,

@@ -4,13 +4,14 @@ use Rattle.std.specs.Prelude.{true, false}
 use Rattle.flash_bank.specs.Seen.{FlashSeen}
 use Rattle.ssu_io.specs.Seen.{ShelfSeen, SinkSeen, SourceSeen}
 use Rattle.ssu_status.specs.declared.status.Status.{Status}
-use Rattle.ssu_status.specs.Words.{Task, ToHear, ToLoad, ToFind, ToShow, ToBuild, ToBlank, ToFormat, ToBoot, ToReplay}
+use Rattle.ssu_status.specs.Words.{Task, ToHear, ToLoad, ToFind, ToShow, ToBuild, ToBlank, ToFormat, ToBoot, ToReplay, ToAir}
 use Rattle.tool_hear.specs.Does.{HearDoes}
 use Rattle.tool_load.specs.Does.{LoadDoes}
 use Rattle.tool_find.specs.Does.{FindDoes}
 use Rattle.tool_build.specs.Does.{BuildDoes}
 use Rattle.tool_flash.specs.Does.{BlankDoes, BootDoes, FormatDoes}
 use Rattle.tool_replay.specs.Replay.{Replays}
+use Rattle.tool_air.specs.Does.{AirDoes}
 
 abbrev pub Does : Task → Status → ShelfSeen → SourceSeen → FlashSeen → SinkSeen → SinkSeen → Type 0
 Does (ToHear pid) result shelf air flash made out =
@@ -31,3 +32,5 @@ Does ToBoot result shelf air flash made out =
     BootDoes result flash made out × (shelf.same × air.same)
 Does ToReplay result shelf air flash made out =
     Replays true result shelf air flash out × made.same
+Does ToAir result shelf air flash made out =
+    AirDoes result shelf air made out × flash.same

@@ -3,5 +3,6 @@
 
 mod top;
 
+pub use broadcast::{ChainFault, Outcome, broadcast_then_boot};
 pub use ssu_status::{Status, made_file};
 pub use top::run;

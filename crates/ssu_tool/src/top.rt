@@ -23,7 +23,7 @@ use tool_replay::replay;
 /// `made`, and what it prints into `out`.
 ///
 /// The words are the folder, a command and its arguments: `hear PID`, `load PID`, `find`, `show`, `build`, `blank N`,
-/// `format FILE`, `boot` or `replay`, with a PID of 0 to 8191 and an N of 4 to 65,536. `Usage` comes exactly where they are
+/// `format FILE`, `boot`, `replay` or `air`, with a PID of 0 to 8191 and an N of 4 to 65,536. `Usage` comes exactly where they are
 /// none of these, and the other answers as each command gives them.
 pub fn run<H: Shelf, A: Source, F: Flash, W: Sink, T: Sink>(
     alloc: Global,
@@ -79,5 +79,6 @@ fn dispatch<H: Shelf, A: Source, F: Flash, W: Sink, T: Sink>(
         Command::Format(name) => format(alloc, &name, shelf, flash, out),
         Command::Boot => boot(flash, made, out),
         Command::Replay => replay::<H, A, F, T, BankStage>(alloc, shelf, air, flash, out),
+        Command::Air => tool_air::air(alloc, shelf, air, made, out),
     }
 }

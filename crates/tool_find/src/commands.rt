@@ -45,6 +45,7 @@ pub fn show<H: Shelf, A: Source, T: Sink>(
 }
 
 /// Both commands, by whether the sections are shown.
+#[inline(never)]
 fn walk_for<H: Shelf, A: Source, T: Sink>(
     alloc: Global,
     shows: bool,

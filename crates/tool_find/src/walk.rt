@@ -11,7 +11,7 @@ use box_file::BoxFile;
 use ssu_answer::BANK_LEN;
 use ssu_compat::SwId;
 use ssu_io::NoMemory;
-use ssu_route::{Report, Route};
+use ssu_route::{HeapRoute, Report};
 use std::alloc::Global;
 use ts_packet::{Packet, Pid, pid_of};
 use ts_section::{Hearer, SectionOut};
@@ -21,7 +21,7 @@ use ts_section::{Hearer, SectionOut};
 pub(crate) struct Walk {
     pub(crate) hearer: Hearer,
     pub(crate) each: SectionOut,
-    pub(crate) route: Route,
+    pub(crate) route: HeapRoute,
     pub(crate) running: SwId,
 }
 
@@ -34,7 +34,7 @@ impl Walk {
     {
         let mut hearer = Hearer::new(alloc)?;
         let each = SectionOut::new(alloc)?;
-        let route = Route::new(file, BANK_LEN);
+        let route = HeapRoute::new(alloc, file, BANK_LEN)?;
         let pids = route.listens();
         hearer.listen(&pids);
         Ok(Walk {
@@ -65,7 +65,7 @@ impl Walk {
 }
 
 /// The route hears the sections in their order.
-fn hear_each(route: &mut Route, each: &SectionOut, pid: Pid, running: SwId)
+fn hear_each(route: &mut HeapRoute, each: &SectionOut, pid: Pid, running: SwId)
     ensures { (me : Receiver) (heard : List Heard) → me.running ≡ running → Stands me heard route.old
         → Stands me (after_all pid each.now heard) route.new }
 {

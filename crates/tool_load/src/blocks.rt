@@ -27,6 +27,7 @@ impl Blocks {
     ghost use Rattle.tool_load.specs.Blocks.{Holds};
 
     /// The group of this plan, without a block. All its space is taken here.
+    #[inline]
     pub(crate) fn new(alloc: Global, group: u32, plan: GroupPlan) -> Result<Blocks, NoMemory>
         ensures group { IfOk result (λ blocks. blocks.group ≡ group) }
         ensures plan { IfOk result (λ blocks. blocks.plan ≡ plan) }

@@ -29,6 +29,7 @@ use ts_section::{Hearer, SectionOut};
 /// `Done` where the group was carried whole, else `Nothing` (level 6 or 7), `Incomplete` or `BadModule`. `NoMemory` before
 /// the first packet, or at the packet at which the group is chosen; `ReadFault` where `air` failed, and `TooLong` at one
 /// byte behind 16,777,216 packets, both before a verdict; `WriteFault` where `made` or `out` failed.
+#[inline(never)]
 pub fn load<A: Source, W: Sink, T: Sink>(
     alloc: Global,
     pid: Pid,

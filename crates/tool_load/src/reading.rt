@@ -47,6 +47,7 @@ pub(crate) fn group_in(section: &[u8]) -> Option<u32>
 }
 
 /// The plan of the group, if this is a DII of it that can be used.
+#[inline]
 fn plan_of(group: u32, dii: &Dii<'_>) -> Option<GroupPlan>
     ensures { MatchOption result (usable_for group dii.now ≡ None)
         (λ plan. (usable_for group dii.now ≡ Some dii.now) × IsPlanOf dii.now plan) }
@@ -61,6 +62,7 @@ fn plan_of(group: u32, dii: &Dii<'_>) -> Option<GroupPlan>
 }
 
 /// The plan of the group, if the section is a DII of it that can be used.
+#[inline]
 #[tactic(auto, unfolding(crate::specs::Load::dii_in))]
 pub(crate) fn plan_in(group: u32, section: &[u8]) -> Option<GroupPlan>
     ensures { MatchOption result (dii_in group section.now ≡ None)

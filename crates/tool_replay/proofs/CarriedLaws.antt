@@ -4,7 +4,7 @@ use Rattle.box_file.specs.BoxText.{box_of}
 use Rattle.box_file.specs.declared.file.BoxFile.{BoxFile}
 use Rattle.ssu_loader.specs.declared.fault.LoadFault.{LoadFault}
 use Rattle.ssu_loader.specs.declared.fault.LoadFault.TheVariants.{Memory}
-use Rattle.ssu_loader.specs.declared.verdict.Verdict.{Verdict}
+use Rattle.ssu_answer.specs.declared.verdict.Verdict.{Verdict}
 use Rattle.ssu_io.specs.Files.{File}
 use Rattle.ssu_status.specs.Status.{OnBoxRefused, OnShelfFault}
 use Rattle.ssu_status.specs.declared.status.Status.{Status}

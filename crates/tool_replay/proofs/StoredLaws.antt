@@ -12,13 +12,13 @@ use Rattle.ssu_loader.specs.Replays.{heard_in}
 use Rattle.ssu_loader.specs.Storing.{Stores}
 use Rattle.ssu_loader.specs.declared.fault.LoadFault.{LoadFault}
 use Rattle.ssu_loader.specs.declared.fault.LoadFault.TheVariants as load_fault
-use Rattle.ssu_loader.specs.declared.verdict.Verdict.{Verdict}
-use Rattle.ssu_loader.specs.declared.verdict.Verdict.TheVariants as verdict
-use Rattle.ssu_status.specs.Status.{OnIncomplete}
+use Rattle.ssu_answer.specs.declared.verdict.Verdict.{Verdict}
+use Rattle.ssu_answer.specs.declared.verdict.Verdict.TheVariants as verdict
+use Rattle.ssu_status.specs.Status.{OnIncomplete, status_of}
 use Rattle.ssu_status.specs.declared.status.Status.{Status}
 use Rattle.ssu_status.specs.declared.status.Status.TheVariants.{Incomplete}
 use Rattle.tool_box.specs.Boxes.{IsBoxRefusal}
-use Rattle.tool_replay.specs.Answers.{status_of, status_of_fault}
+use Rattle.tool_replay.specs.Answers.{status_of_fault}
 
 -- ---- answers that tell of no choice
 

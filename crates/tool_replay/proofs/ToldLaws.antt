@@ -11,16 +11,16 @@ use Rattle.ssu_io.specs.Seen.{ShelfSeen, SinkSeen, SourceSeen}
 use Rattle.ssu_loader.specs.Replaying.{Fails, IsNotBegun}
 use Rattle.ssu_loader.specs.declared.fault.LoadFault.{LoadFault}
 use Rattle.ssu_loader.specs.declared.fault.LoadFault.TheVariants as load_fault
-use Rattle.ssu_loader.specs.declared.verdict.Verdict.{Verdict}
-use Rattle.ssu_loader.specs.declared.verdict.Verdict.TheVariants as verdict
+use Rattle.ssu_answer.specs.declared.verdict.Verdict.{Verdict}
+use Rattle.ssu_answer.specs.declared.verdict.Verdict.TheVariants as verdict
 use Rattle.ssu_status.specs.Answers.{IsFault}
-use Rattle.ssu_status.specs.Status.{OnAbsent, OnBoxRefused, OnShelfFault}
+use Rattle.ssu_status.specs.Status.{OnAbsent, OnBoxRefused, OnShelfFault, status_of}
 use Rattle.ssu_status.specs.declared.status.Status.{Status}
 use Rattle.ssu_status.specs.declared.status.Status.TheVariants.{Absent, BoxRefused, NoMemory, ShelfFault, WriteFault}
 use Rattle.tool_box.specs.Boxes.{IsBoxRefusal, RefusesBox, TellsBox, box_name}
 use Rattle.tool_box.specs.Fetching.{HasNone, Lacks, SaysAbsent, TellsAbsence}
 use Rattle.tool_box.specs.Shelves.{ReadsShelf}
-use Rattle.tool_replay.specs.Answers.{IsNotCalled, NoneFailed, Refuses, Says, Tells, status_of, status_of_fault}
+use Rattle.tool_replay.specs.Answers.{IsNotCalled, NoneFailed, Refuses, Says, Tells, status_of_fault}
 
 -- ---- a shelf that told a box
 

@@ -9,26 +9,18 @@ use Rattle.ssu_io.specs.Bytes.{Gains, GainsPrefix}
 use Rattle.ssu_io.specs.Faults.{Rose}
 use Rattle.ssu_io.specs.Files.{File}
 use Rattle.ssu_io.specs.Seen.{ShelfSeen, SinkSeen, SourceSeen}
-use Rattle.ssu_line.specs.Lines.{bad_module_line, incomplete_line, installed_line, nothing_line, unsettled_line}
+use Rattle.ssu_line.specs.Lines.{verdict_line}
 use Rattle.ssu_loader.specs.Replaying.{Ends, Fails, IsNotBegun, receiver_at}
 use Rattle.ssu_loader.specs.Replays.{TakesAndInstalls}
 use Rattle.ssu_loader.specs.declared.fault.LoadFault.{LoadFault}
 use Rattle.ssu_loader.specs.declared.fault.LoadFault.TheVariants as load_fault
-use Rattle.ssu_loader.specs.declared.verdict.Verdict.{Verdict}
-use Rattle.ssu_loader.specs.declared.verdict.Verdict.TheVariants as verdict
+use Rattle.ssu_answer.specs.declared.verdict.Verdict.{Verdict}
+use Rattle.ssu_answer.specs.declared.verdict.Verdict.TheVariants as verdict
 use Rattle.ssu_status.specs.declared.status.Status.{Status}
 use Rattle.ssu_status.specs.declared.status.Status.TheVariants.{Installed, BoxRefused, Foreign, Nothing, Incomplete, BadModule, Absent}
 use Rattle.ssu_status.specs.declared.status.Status.TheVariants.{ReadFault, WriteFault, FlashFault, Worn, TooLong, NoMemory, Geometry, ShelfFault, Unsettled}
 use Rattle.tool_box.specs.Boxes.{RefusesBox, TellsBox, box_name}
 use Rattle.tool_box.specs.Fetching.{Lacks}
-
--- the status of a verdict
-abbrev pub status_of : Verdict → Status
-status_of (verdict.Installed chosen) = Installed chosen
-status_of (verdict.Nothing level) = Nothing level
-status_of (verdict.Incomplete chosen missing) = Incomplete chosen missing
-status_of (verdict.BadModule id want found) = BadModule id want found
-status_of verdict.Unsettled = Unsettled
 
 -- the status of a replay without one
 abbrev pub status_of_fault : LoadFault → Status
@@ -40,21 +32,13 @@ status_of_fault load_fault.Memory = NoMemory
 status_of_fault load_fault.ReadFault = ReadFault
 status_of_fault load_fault.TooLong = TooLong
 
--- the line of a verdict
-abbrev pub line_of : Verdict → List ℕ
-line_of (verdict.Installed chosen) = installed_line chosen
-line_of (verdict.Nothing level) = nothing_line level
-line_of (verdict.Incomplete chosen missing) = incomplete_line chosen.group missing
-line_of (verdict.BadModule id want found) = bad_module_line id want found
-line_of verdict.Unsettled = unsettled_line
-
 -- The shelf told a box, this verdict came for it, and of its line this was printed.
 pub record Tells (in_bank : Bool) (verdict : Verdict) (Prints : Option (List ℕ) → Option (List ℕ) → List ℕ → Type 0) (shelf : ShelfSeen)
     (air : SourceSeen) (flash : FlashSeen) (out : SinkSeen) : Type 0 where
   pub box_file : BoxFile
   pub told : TellsBox shelf.held box_file
   pub ends : Ends in_bank box_file air flash verdict
-  pub prints : Prints out.got out.got_after (line_of verdict)
+  pub prints : Prints out.got out.got_after (verdict_line verdict)
 
 -- The shelf told a box, and this is why no verdict came for it. Nothing was printed.
 pub record Refuses (fault : LoadFault) (shelf : ShelfSeen) (air : SourceSeen) (flash : FlashSeen) (out : SinkSeen) : Type 0 where

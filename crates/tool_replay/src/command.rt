@@ -5,14 +5,15 @@ ghost use Rattle.flash_bank.specs.Seen.{flash_seen};
 ghost use Rattle.ssu_io.specs.Bytes.{Gains, GainsPrefix};
 ghost use Rattle.ssu_io.specs.Faults.{HasCause};
 ghost use Rattle.ssu_io.specs.Seen.{shelf_seen, sink_seen, source_seen};
-ghost use Rattle.tool_replay.specs.Answers.{line_of as line_of_verdict, status_of as status_of_verdict, status_of_fault as status_of_load_fault};
+ghost use Rattle.ssu_line.specs.Lines.{verdict_line};
+ghost use Rattle.tool_replay.specs.Answers.{status_of_fault as status_of_load_fault};
 ghost use Rattle.tool_replay.specs.Replay.{Replays};
 
 use flash_dev::Flash;
 use flash_stage::Stage;
+use ssu_answer::Verdict;
 use ssu_io::{Failed, Shelf, Sink, Source};
-use ssu_line::Line;
-use ssu_loader::{LoadFault, Verdict};
+use ssu_loader::LoadFault;
 use ssu_status::Status;
 use std::alloc::Global;
 use tool_box::read_box;
@@ -42,7 +43,7 @@ pub fn replay<H: Shelf, A: Source, F: Flash, T: Sink, S: Stage>(
         Err(fault) => return status_of_fault(fault),
     };
     match put_line(verdict, out) {
-        Ok(()) => status_of(verdict),
+        Ok(()) => Status::of(verdict),
         Err(_) => Status::WriteFault,
     }
 }
@@ -63,34 +64,9 @@ fn status_of_fault(fault: LoadFault) -> Status
 
 /// Puts the line of the verdict.
 fn put_line<T: Sink>(verdict: Verdict, out: &mut T) -> Result<(), Failed>
-    ensures whole { OnOk result (Gains (T.contents out.old) (T.contents out.new) (line_of_verdict verdict)) }
-    ensures prefix { OnErr result (GainsPrefix (T.contents out.old) (T.contents out.new) (line_of_verdict verdict)) }
+    ensures whole { OnOk result (Gains (T.contents out.old) (T.contents out.new) (verdict_line verdict)) }
+    ensures prefix { OnErr result (GainsPrefix (T.contents out.old) (T.contents out.new) (verdict_line verdict)) }
     ensures cause { HasCause (T.faults out.old) (T.faults out.new) result }
 {
-    out.put(line_of(verdict).as_str().as_bytes())
-}
-
-/// The line of the verdict.
-fn line_of(verdict: Verdict) -> Line
-    ensures { result.bytes ≡ line_of_verdict verdict }
-{
-    match verdict {
-        Verdict::Installed(chosen) => ssu_line::installed(chosen),
-        Verdict::Nothing(level) => ssu_line::nothing(level),
-        Verdict::Incomplete(chosen, missing) => ssu_line::incomplete(chosen.group, missing),
-        Verdict::BadModule(id, want, found) => ssu_line::bad_module(id, want, found),
-        Verdict::Unsettled => ssu_line::unsettled(),
-    }
-}
-
-fn status_of(verdict: Verdict) -> Status
-    ensures { result ≡ status_of_verdict verdict }
-{
-    match verdict {
-        Verdict::Installed(chosen) => Status::Installed(chosen),
-        Verdict::Nothing(level) => Status::Nothing(level),
-        Verdict::Incomplete(chosen, missing) => Status::Incomplete(chosen, missing),
-        Verdict::BadModule(id, want, found) => Status::BadModule(id, want, found),
-        Verdict::Unsettled => Status::Unsettled,
-    }
+    out.put(ssu_line::verdict(verdict).as_str().as_bytes())
 }

@@ -55,13 +55,17 @@ step_zero : (sum b : ℕ) (bytes : List ℕ)
     → bit_xor sum (after_bytes 0 (b ∷ bytes)) ≡ bit_xor (bit_xor sum (lane (length bytes) b)) (after_bytes 0 bytes)
 step_zero sum b bytes = step sum 0 b 0 0 bytes (omega arith) refl refl
 
-pub sixteen : (x b0 b1 b2 b3 b4 b5 b6 b7 b8 b9 b10 b11 b12 b13 b14 b15 : ℕ) → x < 2 ^ 32
-    → after_bytes x (b0 ∷ b1 ∷ b2 ∷ b3 ∷ b4 ∷ b5 ∷ b6 ∷ b7 ∷ b8 ∷ b9 ∷ b10 ∷ b11 ∷ b12 ∷ b13 ∷ b14 ∷ b15 ∷ []) ≡
-    bit_xor (bit_xor (bit_xor (bit_xor (bit_xor (bit_xor (bit_xor (bit_xor (bit_xor (bit_xor (bit_xor (bit_xor (bit_xor (bit_xor (bit_xor (lane 15 (bit_xor (x / 2 ^ 24 % 256) b0)) (lane 14 (bit_xor (x / 2 ^ 16 % 256) b1)))
+-- what the first four of sixteen bytes and the register give
+abbrev pub early : ℕ → ℕ → ℕ → ℕ → ℕ → ℕ
+early x b0 b1 b2 b3 =
+    bit_xor (bit_xor (bit_xor (lane 15 (bit_xor (x / 2 ^ 24 % 256) b0)) (lane 14 (bit_xor (x / 2 ^ 16 % 256) b1)))
     (lane 13 (bit_xor (x / 2 ^ 8 % 256) b2)))
-    (lane 12 (bit_xor (x % 256) b3)))
-    (lane 11 b4))
-    (lane 10 b5))
+    (lane 12 (bit_xor (x % 256) b3))
+
+-- what the other twelve give
+abbrev pub later : ℕ → ℕ → ℕ → ℕ → ℕ → ℕ → ℕ → ℕ → ℕ → ℕ → ℕ → ℕ → ℕ
+later b4 b5 b6 b7 b8 b9 b10 b11 b12 b13 b14 b15 =
+    bit_xor (bit_xor (bit_xor (bit_xor (bit_xor (bit_xor (bit_xor (bit_xor (bit_xor (bit_xor (bit_xor (lane 11 b4) (lane 10 b5))
     (lane 9 b6))
     (lane 8 b7))
     (lane 7 b8))
@@ -72,12 +76,11 @@ pub sixteen : (x b0 b1 b2 b3 b4 b5 b6 b7 b8 b9 b10 b11 b12 b13 b14 b15 : ℕ) �
     (lane 2 b13))
     (lane 1 b14))
     (lane 0 b15)
-sixteen x b0 b1 b2 b3 b4 b5 b6 b7 b8 b9 b10 b11 b12 b13 b14 b15 h =
-    step 0 x b0 (x / 2 ^ 24 % 256) (x * 2 ^ 8 % 2 ^ 32) _ h (omega arith) refl
-    ∙ step _ (x * 2 ^ 8 % 2 ^ 32) b1 (x / 2 ^ 16 % 256) (x * 2 ^ 16 % 2 ^ 32) _ (omega arith) (omega arith) (omega arith)
-    ∙ step _ (x * 2 ^ 16 % 2 ^ 32) b2 (x / 2 ^ 8 % 256) (x * 2 ^ 24 % 2 ^ 32) _ (omega arith) (omega arith) (omega arith)
-    ∙ step _ (x * 2 ^ 24 % 2 ^ 32) b3 (x % 256) 0 _ (omega arith) (omega arith) (omega arith)
-    ∙ step_zero _ b4 _
+
+twelve : (b4 b5 b6 b7 b8 b9 b10 b11 b12 b13 b14 b15 : ℕ)
+    → after_bytes 0 (b4 ∷ b5 ∷ b6 ∷ b7 ∷ b8 ∷ b9 ∷ b10 ∷ b11 ∷ b12 ∷ b13 ∷ b14 ∷ b15 ∷ []) ≡ later b4 b5 b6 b7 b8 b9 b10 b11 b12 b13 b14 b15
+twelve b4 b5 b6 b7 b8 b9 b10 b11 b12 b13 b14 b15 =
+    step_zero 0 b4 _
     ∙ step_zero _ b5 _
     ∙ step_zero _ b6 _
     ∙ step_zero _ b7 _
@@ -91,6 +94,17 @@ sixteen x b0 b1 b2 b3 b4 b5 b6 b7 b8 b9 b10 b11 b12 b13 b14 b15 h =
     ∙ step_zero _ b15 []
     ∙ ap (bit_xor _) (after_none 0)
     ∙ xor_zero_r _
+
+pub sixteen : (x b0 b1 b2 b3 b4 b5 b6 b7 b8 b9 b10 b11 b12 b13 b14 b15 : ℕ) → x < 2 ^ 32
+    → after_bytes x (b0 ∷ b1 ∷ b2 ∷ b3 ∷ b4 ∷ b5 ∷ b6 ∷ b7 ∷ b8 ∷ b9 ∷ b10 ∷ b11 ∷ b12 ∷ b13 ∷ b14 ∷ b15 ∷ [])
+    ≡ bit_xor (later b4 b5 b6 b7 b8 b9 b10 b11 b12 b13 b14 b15) (early x b0 b1 b2 b3)
+sixteen x b0 b1 b2 b3 b4 b5 b6 b7 b8 b9 b10 b11 b12 b13 b14 b15 h =
+    step 0 x b0 (x / 2 ^ 24 % 256) (x * 2 ^ 8 % 2 ^ 32) _ h (omega arith) refl
+    ∙ step _ (x * 2 ^ 8 % 2 ^ 32) b1 (x / 2 ^ 16 % 256) (x * 2 ^ 16 % 2 ^ 32) _ (omega arith) (omega arith) (omega arith)
+    ∙ step _ (x * 2 ^ 16 % 2 ^ 32) b2 (x / 2 ^ 8 % 256) (x * 2 ^ 24 % 2 ^ 32) _ (omega arith) (omega arith) (omega arith)
+    ∙ step _ (x * 2 ^ 24 % 2 ^ 32) b3 (x % 256) 0 _ (omega arith) (omega arith) (omega arith)
+    ∙ ap (bit_xor (early x b0 b1 b2 b3)) (twelve b4 b5 b6 b7 b8 b9 b10 b11 b12 b13 b14 b15)
+    ∙ xor_comm (early x b0 b1 b2 b3) (later b4 b5 b6 b7 b8 b9 b10 b11 b12 b13 b14 b15)
 
 -- The first sixteen bytes of a text.
 pub first_sixteen : (bytes : List ℕ) → 16 ≤ length bytes

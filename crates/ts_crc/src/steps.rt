@@ -38,18 +38,14 @@ fn after_rest(register: u32, bytes: &[u8]) -> u32
 }
 
 /// The register is added to the first four bytes; then each byte counts as if the register had been 0 and the bytes
-/// beside it were 0.
+/// beside it were 0. The bytes that do not wait for the register come first: the processor takes them while the register
+/// of the sixteen before is still being made.
 #[inline]
 fn with_sixteen(register: u32, bytes: &[u8]) -> u32
     requires { 16 ≤ length bytes.now }
     ensures { result ≡ after_bytes register (take 16 bytes.now) }
 {
-    let [first, second, third, fourth] = register.to_be_bytes();
-    lane_15(first ^ bytes[0])
-        ^ lane_14(second ^ bytes[1])
-        ^ lane_13(third ^ bytes[2])
-        ^ lane_12(fourth ^ bytes[3])
-        ^ lane_11(bytes[4])
+    let later = lane_11(bytes[4])
         ^ lane_10(bytes[5])
         ^ lane_9(bytes[6])
         ^ lane_8(bytes[7])
@@ -60,7 +56,13 @@ fn with_sixteen(register: u32, bytes: &[u8]) -> u32
         ^ lane_3(bytes[12])
         ^ lane_2(bytes[13])
         ^ lane_1(bytes[14])
-        ^ lane_0(bytes[15])
+        ^ lane_0(bytes[15]);
+    let [first, second, third, fourth] = register.to_be_bytes();
+    later
+        ^ (lane_15(first ^ bytes[0])
+            ^ lane_14(second ^ bytes[1])
+            ^ lane_13(third ^ bytes[2])
+            ^ lane_12(fourth ^ bytes[3]))
 }
 
 #[inline]

@@ -1,10 +1,8 @@
 -- What was taken in a run over the packets of an input.
-use Rattle.std.proofs.Common.{◌≡◌, ℕ, ◌+◌, ◌*◌, ◌<◌, ◌≤◌, List, [], ◌∷◌, ◌++◌, length, Option, arith, sym, ap, subst, ◌∙◌, length-append, append-nil}
+use Rattle.std.proofs.Common.{◌≡◌, ℕ, ◌*◌, ◌<◌, ◌≤◌, List, [], ◌∷◌, ◌++◌, length, Option, arith, subst, length-append, append-nil}
 use Rattle.ssu_io.specs.Bytes.{Takes}
 use Rattle.ssu_io.proofs.BytesLemmas.{Takes_none, Takes_join}
-use Rattle.ts_input.specs.Behind.{TakesOne}
-use Rattle.ts_input.specs.Input.{TakesRest, TakesPackets}
-use Rattle.ts_input.specs.Next.{TakesFewer}
+use Rattle.ts_input.specs.Input.{TakesFewer, TakesOne, TakesPackets, TakesRest}
 use Rattle.ts_input.specs.Packets.{packets, most_packets, IsWithin, IsOneMore}
 use Rattle.ts_input.proofs.PacketLemmas.{packets_end}
 

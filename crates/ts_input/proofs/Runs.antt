@@ -4,12 +4,10 @@ use Rattle.ssu_io.specs.Bytes.{Takes, Gains, GainsPrefix}
 use Rattle.ssu_io.specs.SinkBuffer.{MovesOn}
 use Rattle.ssu_io.proofs.BytesLemmas.{Takes_none, Takes_join}
 use Rattle.ssu_io.proofs.BufferLemmas.{MovesOn_none, MovesOn_join, MovesOn_flushed, MovesOn_failed, GainsPrefix_longer}
-use Rattle.ts_input.specs.Input.{TakesRest}
+use Rattle.ts_input.specs.Input.{TakesOne, TakesRest}
 use Rattle.ts_input.specs.Packets.{packets, most_packets}
-use Rattle.ts_input.specs.Next.{TakesFewer}
-use Rattle.ts_input.specs.Behind.{TakesOne}
 use Rattle.ts_input.proofs.InputLemmas.{rest_taken, byte_taken}
-use Rattle.ts_input.proofs.PacketLemmas.{length_packets, packets_more, packets_end, packets_of_rest}
+use Rattle.ts_input.proofs.PacketLemmas.{length_packets, packets_more, packets_of_rest}
 use Rattle.ts_input.specs.Puts.{Puts, PutsOfMost, PutsPrefix}
 use Rattle.ts_input.specs.SoFar.{SoFar}
 
@@ -79,98 +77,6 @@ step_failed text Before count left left_now left_then got got_now got_then waite
       within = omega (arith, length-append sofar.taken packet, sofar.whole, one, few);
     }
 
--- The end of the input or a fault of it came, with a rest that is no packet, and all that waited went.
-pub end : (text : List (List ℕ) → List ℕ) (Stands : List (List ℕ) → Type 0) (count : ℕ) (left left_now left_then got got_now got_then : Option (List ℕ)) (waiting : List ℕ)
-    → SoFar text Stands count left left_now got got_now waiting
-    → TakesFewer left_now left_then 188
-    → Gains got_now got_then waiting
-    → count < 16777216
-    → Puts text left left_then got got_then
-end text Stands count left left_now left_then got got_now got_then waiting sofar rest gains few =
-    let same : text (packets sofar.taken) ≡ text (packets (sofar.taken ++ rest.rest)) =
-    ap text (sym (packets_end sofar.taken rest.rest count sofar.whole rest.fewer)) in
-    let P : List ℕ → Type 0 = λ t. Gains got got_then t in
-    record {
-      taken = sofar.taken ++ rest.rest;
-      takes = Takes_join left left_now left_then sofar.taken rest.rest sofar.takes rest.takes;
-      puts = subst P same (MovesOn_flushed got got_now got_then [] (text (packets sofar.taken)) waiting sofar.moves gains);
-      within = omega (arith, length-append sofar.taken rest.rest, sofar.whole, rest.fewer, few);
-    }
-
--- The same, and the write of what waited failed.
-pub end_failed : (text : List (List ℕ) → List ℕ) (Stands : List (List ℕ) → Type 0) (count : ℕ) (left left_now left_then got got_now got_then : Option (List ℕ)) (waiting : List ℕ)
-    → SoFar text Stands count left left_now got got_now waiting
-    → TakesFewer left_now left_then 188
-    → GainsPrefix got_now got_then waiting
-    → count < 16777216
-    → PutsPrefix text left left_then got got_then
-end_failed text Stands count left left_now left_then got got_now got_then waiting sofar rest failed few =
-    let ps = packets sofar.taken in
-    let same : text ps ++ [] ≡ text (packets (sofar.taken ++ rest.rest)) =
-    append-nil (text ps) ∙ ap text (sym (packets_end sofar.taken rest.rest count sofar.whole rest.fewer)) in
-    let P : List ℕ → Type 0 = λ t. GainsPrefix got got_then t in
-    let Q : List ℕ → Type 0 = λ t. GainsPrefix got_now got_then t in
-    let waits : waiting ≡ waiting ++ [] = sym (append-nil waiting) in
-    record {
-      taken = sofar.taken ++ rest.rest;
-      takes = Takes_join left left_now left_then sofar.taken rest.rest sofar.takes rest.takes;
-      puts = subst P same (MovesOn_failed got got_now got_then [] (text ps) waiting [] sofar.moves (subst Q waits failed));
-      within = omega (arith, length-append sofar.taken rest.rest, sofar.whole, rest.fewer, few);
-    }
-
--- The greatest number of packets was taken, and the write of what waited failed.
-pub most_failed : (text : List (List ℕ) → List ℕ) (Stands : List (List ℕ) → Type 0) (count : ℕ) (left left_now got got_now got_then : Option (List ℕ)) (waiting : List ℕ)
-    → count ≡ 16777216 → SoFar text Stands count left left_now got got_now waiting
-    → GainsPrefix got_now got_then waiting
-    → PutsPrefix text left left_now got got_then
-most_failed text Stands count left left_now got got_now got_then waiting most sofar failed =
-    let ps = packets sofar.taken in
-    let P : List ℕ → Type 0 = λ t. GainsPrefix got got_then t in
-    let Q : List ℕ → Type 0 = λ t. GainsPrefix got_now got_then t in
-    let waits : waiting ≡ waiting ++ [] = sym (append-nil waiting) in
-    record {
-      taken = sofar.taken;
-      takes = sofar.takes;
-      puts = subst P (append-nil (text ps)) (MovesOn_failed got got_now got_then [] (text ps) waiting [] sofar.moves (subst Q waits failed));
-      within = omega (arith, sofar.whole, most);
-    }
-
--- The greatest number of packets was taken, all that waited went, and no byte came.
-pub most : (text : List (List ℕ) → List ℕ) (Stands : List (List ℕ) → Type 0) (count : ℕ) (left left_now left_then got got_now got_then : Option (List ℕ)) (waiting : List ℕ)
-    → count ≡ 16777216 → SoFar text Stands count left left_now got got_now waiting
-    → TakesFewer left_now left_then 1
-    → Gains got_now got_then waiting
-    → Puts text left left_then got got_then
-most text Stands count left left_now left_then got got_now got_then waiting so_many sofar rest gains =
-    let short : length rest.rest < 188 = omega (arith, rest.fewer) in
-    let same : text (packets sofar.taken) ≡ text (packets (sofar.taken ++ rest.rest)) =
-    ap text (sym (packets_end sofar.taken rest.rest count sofar.whole short)) in
-    let P : List ℕ → Type 0 = λ t. Gains got got_then t in
-    record {
-      taken = sofar.taken ++ rest.rest;
-      takes = Takes_join left left_now left_then sofar.taken rest.rest sofar.takes rest.takes;
-      puts = subst P same (MovesOn_flushed got got_now got_then [] (text (packets sofar.taken)) waiting sofar.moves gains);
-      within = omega (arith, length-append sofar.taken rest.rest, sofar.whole, so_many, rest.fewer);
-    }
-
--- The same, and one more byte came.
-pub too_long : (text : List (List ℕ) → List ℕ) (Stands : List (List ℕ) → Type 0) (count : ℕ) (left left_now left_then got got_now got_then : Option (List ℕ)) (waiting : List ℕ)
-    → count ≡ 16777216 → SoFar text Stands count left left_now got got_now waiting
-    → TakesOne left_now left_then
-    → Gains got_now got_then waiting
-    → PutsOfMost text left left_then got got_then
-too_long text Stands count left left_now left_then got got_now got_then waiting most sofar last gains =
-    let short : length last.byte < 188 = omega (arith, last.one) in
-    let same : text (packets sofar.taken) ≡ text (packets (sofar.taken ++ last.byte)) =
-    ap text (sym (packets_end sofar.taken last.byte count sofar.whole short)) in
-    let P : List ℕ → Type 0 = λ t. Gains got got_then t in
-    record {
-      taken = sofar.taken ++ last.byte;
-      takes = Takes_join left left_now left_then sofar.taken last.byte sofar.takes last.takes;
-      puts = subst P same (MovesOn_flushed got got_now got_then [] (text (packets sofar.taken)) waiting sofar.moves gains);
-      one_more = omega (arith, length-append sofar.taken last.byte, sofar.whole, most, last.one);
-    }
-
 -- More text waits than that of the packets.
 pub longer : (text whole more : List (List ℕ) → List ℕ) (Stands : List (List ℕ) → Type 0) (count : ℕ) (left left_now got got_now : Option (List ℕ)) (waiting : List ℕ)
     → (sofar : SoFar text Stands count left left_now got got_now waiting)
@@ -223,27 +129,6 @@ prefix_longer text whole more left left_after got got_after puts is =
       takes = puts.takes;
       puts = subst P (sym (is ps)) (GainsPrefix_longer got got_after (text ps) (more ps) puts.puts);
       within = puts.within;
-    }
-
--- The greatest number of packets was taken, no byte came, and the write of what waited failed.
-pub most_end_failed : (text : List (List ℕ) → List ℕ) (Stands : List (List ℕ) → Type 0) (count : ℕ) (left left_now left_then got got_now got_then : Option (List ℕ)) (waiting : List ℕ)
-    → count ≡ 16777216 → SoFar text Stands count left left_now got got_now waiting
-    → TakesFewer left_now left_then 1
-    → GainsPrefix got_now got_then waiting
-    → PutsPrefix text left left_then got got_then
-most_end_failed text Stands count left left_now left_then got got_now got_then waiting so_many sofar rest failed =
-    let ps = packets sofar.taken in
-    let short : length rest.rest < 188 = omega (arith, rest.fewer) in
-    let same : text ps ++ [] ≡ text (packets (sofar.taken ++ rest.rest)) =
-    append-nil (text ps) ∙ ap text (sym (packets_end sofar.taken rest.rest count sofar.whole short)) in
-    let P : List ℕ → Type 0 = λ t. GainsPrefix got got_then t in
-    let Q : List ℕ → Type 0 = λ t. GainsPrefix got_now got_then t in
-    let waits : waiting ≡ waiting ++ [] = sym (append-nil waiting) in
-    record {
-      taken = sofar.taken ++ rest.rest;
-      takes = Takes_join left left_now left_then sofar.taken rest.rest sofar.takes rest.takes;
-      puts = subst P same (MovesOn_failed got got_now got_then [] (text ps) waiting [] sofar.moves (subst Q waits failed));
-      within = omega (arith, length-append sofar.taken rest.rest, sofar.whole, so_many, rest.fewer);
     }
 
 -- No packet came any more, and all that waited went.

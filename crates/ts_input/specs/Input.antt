@@ -2,8 +2,8 @@
 use Rattle.std.specs.Prelude.{◌≡◌, ℕ, ◌+◌, ◌*◌, ◌<◌, ◌≤◌, List, length, Option}
 use Rattle.ssu_io.specs.Bytes.{Takes}
 use Rattle.ts_input.specs.Packets.{packets, most_packets, most_bytes}
-use Rattle.ts_input.specs.declared.next.Next.{Next}
-use Rattle.ts_input.specs.declared.next.Next.TheVariants.{Packet}
+use Rattle.ts_input.specs.declared.input.Last.{Last}
+use Rattle.ts_input.specs.declared.input.Last.TheVariants.{Packet}
 use Rattle.ts_input.specs.declared.input.Ended.{Ended}
 use Rattle.ts_input.specs.declared.input.Ended.TheVariants.{End, Failed, TooLong}
 
@@ -13,11 +13,23 @@ pub record InputState : Type 0 where
   -- the bytes of the last one
   pub packet : List ℕ
   -- what came last
-  pub last : Next
+  pub last : Last
 
 -- No packet comes any more: the source is at its end, it failed, or the greatest number of packets came.
 abbrev pub IsOver : InputState → Type 0
 IsOver input = input.last ≡ Packet → input.count ≡ most_packets
+
+-- Fewer bytes than that were taken.
+pub record TakesFewer (before after : Option (List ℕ)) (count : ℕ) : Type 0 where
+  pub rest : List ℕ
+  pub fewer : length rest < count
+  pub takes : Takes before after rest
+
+-- One byte was taken.
+pub record TakesOne (before after : Option (List ℕ)) : Type 0 where
+  pub byte : List ℕ
+  pub one : length byte ≡ 1
+  pub takes : Takes before after byte
 
 -- Behind so many packets bytes were taken that are no packet, and with them no more than those of the greatest number.
 pub record TakesRest (count : ℕ) (before after : Option (List ℕ)) : Type 0 where

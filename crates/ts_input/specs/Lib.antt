@@ -1,6 +1,4 @@
-pub mod Behind
 pub mod Input
-pub mod Next
 pub mod Packets
 pub mod Puts
 pub mod SoFar

@@ -2,7 +2,7 @@
 ghost use Rattle.std.specs.Prelude.{◌≡◌, ◌≤◌, ◌<◌, ℕ, List, length, take, IfOk, IfErr, OnErr};
 ghost use Rattle.ssu_io.specs.Bytes.{Takes};
 ghost use Rattle.ssu_io.specs.Faults.{HasCause};
-ghost use Rattle.ts_input.specs.Next.{TakesFewer};
+ghost use Rattle.ts_input.specs.Input.{TakesFewer};
 ghost use Rattle.ts_input.specs.Packets.{IsAtEnd};
 
 use ssu_io::{Failed, Source};

@@ -1,17 +1,19 @@
-//! A run over the packets of a source, up to the greatest number that a run takes.
+//! A run over the packets of a source, up to the greatest number that a run takes: ISO/IEC 13818-1, 2.4.3.2 (transport packets
+//! of 188 bytes).
 ghost use Rattle.std.specs.Prelude.{◌≡◌, ◌+◌, ◌≤◌, ℕ, [], IsTrue, IsFalse, length};
 ghost use Rattle.ssu_io.specs.Bytes.{Takes};
 ghost use Rattle.ssu_io.specs.Faults.{Rose};
-ghost use Rattle.ts_input.specs.Behind.{TakesOne};
-ghost use Rattle.ts_input.specs.Input.{IsOver, OnEnd, OnFailed, OnTooLong, TakesRest, UnlessTooLong};
+ghost use Rattle.ts_input.specs.Input.{IsOver, OnEnd, OnFailed, OnTooLong, TakesOne, TakesRest, UnlessTooLong};
 ghost use Rattle.ts_input.specs.Packets.{IsAtEnd, most_packets};
-ghost use Rattle.ts_input.specs.declared.next.Next.TheVariants.{End as IsEnded, Failed as IsFailed};
+ghost use Rattle.ts_input.specs.declared.input.Last.TheVariants.{End as IsEnded, Failed as IsFailed};
 
-use crate::behind::{Behind, MAX_PACKETS, behind_last};
-use crate::next::{Next, next_packet};
+use crate::fill::fill;
 use ssu_io::Source;
 use std::marker::Model;
 use ts_packet::{PACKET_LEN, Packet};
+
+/// How many packets a run takes at most.
+pub const MAX_PACKETS: u32 = 16_777_216;
 
 /// How the packets of a source ended.
 #[derive(Clone, Copy, Debug, PartialEq, Eq)]
@@ -24,12 +26,20 @@ pub enum Ended {
     TooLong,
 }
 
+/// What came last.
+#[derive(Clone, Copy, Debug, PartialEq, Eq)]
+enum Last {
+    Packet,
+    End,
+    Failed,
+}
+
 /// The packets of a source, one after the other: `while input.next(air) { .. }`, and then how they ended.
 #[derive(Drop)]
 pub struct PacketInput {
     packet: Packet,
     count: u32,
-    last: Next,
+    last: Last,
 }
 
 impl Model for PacketInput {
@@ -52,7 +62,7 @@ impl PacketInput {
         PacketInput {
             packet: [0; PACKET_LEN],
             count: 0,
-            last: Next::Packet,
+            last: Last::Packet,
         }
     }
 
@@ -70,16 +80,19 @@ impl PacketInput {
         ensures cause { self.new.last ≡ IsFailed → Rose (A.faults air.old) (A.faults air.new) }
         ensures later { A.faults air.old ≤ A.faults air.new }
     {
-        self.last = Next::Packet;
+        self.last = Last::Packet;
         if self.count == MAX_PACKETS {
             return false;
         }
-        self.last = next_packet(air, &mut self.packet);
-        if self.last != Next::Packet {
-            return false;
+        match fill(air, &mut self.packet) {
+            Ok(n) if n == PACKET_LEN => {
+                self.count += 1;
+                return true;
+            }
+            Ok(_) => self.last = Last::End,
+            Err(_) => self.last = Last::Failed,
         }
-        self.count += 1;
-        true
+        false
     }
 
     /// The packet that came last.
@@ -109,9 +122,9 @@ impl PacketInput {
         ensures later { A.faults air.old ≤ A.faults air.new }
     {
         match self.last {
-            Next::End => Ended::End,
-            Next::Failed => Ended::Failed,
-            Next::Packet => ended_behind(air),
+            Last::End => Ended::End,
+            Last::Failed => Ended::Failed,
+            Last::Packet => ended_behind(air),
         }
     }
 }
@@ -124,9 +137,9 @@ fn ended_behind<A: Source>(air: &mut A) -> Ended
     ensures cause { OnFailed result (Rose (A.faults air.old) (A.faults air.new)) }
     ensures later { A.faults air.old ≤ A.faults air.new }
 {
-    match behind_last(air) {
-        Behind::Nothing => Ended::End,
-        Behind::More => Ended::TooLong,
-        Behind::Failed => Ended::Failed,
+    match fill(air, &mut [0]) {
+        Ok(0) => Ended::End,
+        Ok(_) => Ended::TooLong,
+        Err(_) => Ended::Failed,
     }
 }

@@ -14,7 +14,7 @@ use Rattle.ssu_loader.specs.Replaying.{Ends, Fails, IsReady, receiver_at}
 use Rattle.ssu_loader.specs.Replays.{BeginsNone, BreaksAtPacket, ComesSeen, EndsWith, ReachesNone, ReplayLeaves}
 use Rattle.ssu_loader.specs.declared.fault.LoadFault.{LoadFault}
 use Rattle.ssu_loader.specs.declared.fault.LoadFault.TheVariants.{ReadFault, TooLong}
-use Rattle.ssu_loader.specs.declared.verdict.Verdict.{Verdict}
+use Rattle.ssu_answer.specs.declared.verdict.Verdict.{Verdict}
 use Rattle.ssu_loader.specs.declared.loader.Loader.{Loader}
 use Rattle.ssu_loader.specs.Loading.{bank_of, receiver_in}
 use Rattle.ssu_loader.proofs.CarriedLaws.{taking_installs}

@@ -27,3 +27,6 @@ returns-in-Boot-clause-does g c = rw c.in-Boot.is (c.boot.ensures.does, (refl, r
 
 pub returns-in-Replay-clause-does : goal.returns-in-Replay-clause-does
 returns-in-Replay-clause-does g c = rw c.in-Replay.is (c.replay.ensures.replays, refl)
+
+pub returns-in-Air-clause-does : goal.returns-in-Air-clause-does
+returns-in-Air-clause-does g c = rw c.in-Air.is (c.air.ensures.does, refl)

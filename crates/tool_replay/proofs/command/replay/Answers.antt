@@ -5,8 +5,7 @@ use Rattle.ssu_io.specs.Seen.{shelf_seen, sink_seen, source_seen}
 use Rattle.ssu_loader.specs.Replaying.{receiver_at}
 use Rattle.ssu_loader.specs.Replays.{BeginsNone, CarriesFirst, heard_in}
 use Rattle.ssu_loader.specs.Storing.{Stores}
-use Rattle.ssu_status.specs.Status.{OnIncomplete}
-use Rattle.tool_replay.specs.Answers.{status_of}
+use Rattle.ssu_status.specs.Status.{OnIncomplete, status_of}
 use Rattle.tool_replay.proofs.CarriedLaws.{box_is_had, for_box, not_memory, of_box}
 use Rattle.tool_replay.proofs.KeptLaws.{leaves_for, leaves_same}
 use Rattle.tool_replay.proofs.StoredLaws.{fault_stores, refusal_stores, verdict_stores}
@@ -95,7 +94,7 @@ returns-in-Ok-put_line g c =
     let b = c.read_box.ensures in
     let r = c.replay.ensures.replays in
     let v = c.in-Ok-replay.verdict in
-    let status = c.status_of.ensures in
+    let status = c.of.ensures in
     let ends = c.in-Ok-replay.ensures.replays.ends in
     record {
       replays = record {

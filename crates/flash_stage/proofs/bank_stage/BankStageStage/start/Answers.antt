@@ -31,5 +31,5 @@ returns-clause-agrees g c tells number p at free =
     let plan = c.args.plan.now in
     let same : SameBank c.args.bank.now c.begin.new.self = record { geometry = c.begin.ensures.geometry; current = c.begin.ensures.current; block = c.begin.ensures.block } in
     let there : place_at plan.block_size plan.modules.items number ≡ Some p =
-    subst (λ (ms : List ModulePlan). place_at plan.block_size ms number ≡ Some p) (c.replace.ensures ∙ c.as_slice.ensures.value) at in
+    subst (λ (ms : List ModulePlan). place_at plan.block_size ms number ≡ Some p) (c.replace.ensures.items ∙ c.as_slice.ensures.value) at in
     blank_place plan c.args.bank.now c.begin.new.self (g.F.Flash.contents c.begin.new.flash) number p same c.requires.inside (c.in_ok-begin.ensures.erased_bank tells) there

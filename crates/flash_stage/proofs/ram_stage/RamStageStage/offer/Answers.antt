@@ -17,7 +17,7 @@ offer-requires-clause-place g c = record {
 }
 
 pub invariant_of-self : goal.invariant_of-self
-invariant_of-self g c = record { room = λ plan fits. c.offer.ensures.room plan (c.args.self.now.room plan fits) }
+invariant_of-self g c = record { room = λ plan fits. c.offer.ensures.room plan (c.args.self.now.room plan fits); kept = c.args.self.now.kept }
 
 pub returns-clause-ready : goal.returns-clause-ready
 returns-clause-ready g c = still_started c.args.self.now _ c.args._bank.now c.requires.ready refl refl (c.offer.ensures.plan (plan_in c.args.self.now c.args._bank.now c.requires.ready) (record { places = refl; total = refl }))

@@ -6,7 +6,7 @@ use Rattle.flash_bank.specs.Leaving.{KeepsBoot}
 use Rattle.flash_stage.proofs.ram_stage.RamStageStage.start.Goals as goal
 
 pub invariant_of-self : goal.invariant_of-self
-invariant_of-self g c = record { room = λ plan fits. c.start.ensures.room plan (c.args.self.now.room plan fits) }
+invariant_of-self g c = record { room = λ plan fits. c.start.ensures.room plan (c.args.self.now.room plan fits); kept = c.replace.ensures.room }
 
 pub returns-clause-left : goal.returns-clause-left
 returns-clause-left g c tells =

@@ -20,27 +20,27 @@ planned b dii bank_len modules places total size short none small m p t =
     subst (λ (n : ℕ). IsPlan n (laid_out n 0 0 dii.modules) (sum_by (blocks_of n) dii.modules) (total_of dii.modules)) (sym size) plan in
     rw (m, p, t) here
 
-pub lay-modules-requires-clause-some : goal.lay-modules-requires-clause-some
-lay-modules-requires-clause-some c =
+pub lay-places-requires-clause-some : goal.lay-places-requires-clause-some
+lay-places-requires-clause-some c =
     let least = (not_refused c.args.dii.now c.args.bank_len c.in-Ok.ensures.0).least in
     let size = ap (λ (d : DiiFields). d.block_size) c.dii.view_is in
     omega (arith, least, size)
 
-pub lay-modules-requires-clause-blocks : goal.lay-modules-requires-clause-blocks
-lay-modules-requires-clause-blocks c =
+pub lay-places-requires-clause-blocks : goal.lay-places-requires-clause-blocks
+lay-places-requires-clause-blocks c =
     blocks_fit c.dii.inside.block_size c.args.dii.now c.args.bank_len (ap (λ (d : DiiFields). d.block_size) c.dii.view_is)
     (subst (λ (d : DiiFields). length d.modules ≤ 506) c.dii.view_is c.dii.invariant) c.in-Ok.ensures.0
 
 pub invariant_of-result : goal.invariant_of-result
 invariant_of-result c = record {
   planned =
-      planned c.dii.inside.block_size c.args.dii.now c.args.bank_len c.lay-modules.result.modules.items c.lay-modules.result.places c.lay-modules.result.total
+      planned c.dii.inside.block_size c.args.dii.now c.args.bank_len c.lay-places.new.modules.items c.lay-places.result.places c.lay-places.result.total
       (ap (λ (d : DiiFields). d.block_size) c.dii.view_is) (subst (λ (d : DiiFields). length d.modules ≤ 506) c.dii.view_is c.dii.invariant) c.in-Ok.ensures.0 (omega arith)
-      c.lay-modules.ensures.modules c.lay-modules.ensures.places c.lay-modules.ensures.total;
+      c.lay-places.ensures.modules c.lay-places.ensures.places c.lay-places.ensures.total;
 }
 
 pub returns-in-Ok-clause-fits : goal.returns-in-Ok-clause-fits
 returns-in-Ok-clause-fits c =
     let fits = (not_refused c.args.dii.now c.args.bank_len c.in-Ok.ensures.0).fits in
-    let total = c.lay-modules.ensures.total in
+    let total = c.lay-places.ensures.total in
     omega (arith, fits, total)

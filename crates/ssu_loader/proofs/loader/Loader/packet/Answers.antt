@@ -1,6 +1,6 @@
 use Rattle.std.proofs.Common.{◌≡◌, ℕ, List, ◌∷◌, ap, refl, sym, subst, ◌∙◌}
 use Rattle.std.specs.Prelude.{Ok, Option}
-use Rattle.ssu_loader.specs.declared.verdict.Verdict.{Verdict}
+use Rattle.ssu_answer.specs.declared.verdict.Verdict.{Verdict}
 use Rattle.flash_dev.specs.Moments.{LeavesOnly}
 use Rattle.ts_section.specs.Events.{Event, Feed, Heard, Listen}
 use Rattle.ts_section.specs.Hearing.{Hears}
@@ -11,7 +11,7 @@ use Rattle.ssu_loader.specs.Verdicts.{IsSeen}
 use Rattle.ssu_loader.specs.Collecting.{Collects, StopsBefore}
 use Rattle.ssu_loader.specs.Leaving.{GoesOn, IfUnsettled, SectionsLeave}
 use Rattle.ssu_loader.proofs.AnsweringLaws.{none_one}
-use Rattle.ssu_loader.proofs.PacketLaws.{answer_carried, packet_heard}
+use Rattle.ssu_loader.proofs.PacketLaws.{answer_carried, packet_alone, packet_heard}
 use Rattle.ssu_loader.proofs.StoringLaws.{stores_in}
 use Rattle.ssu_loader.proofs.loader.Loader.packet.Goals as goal
 
@@ -136,3 +136,15 @@ returns-clause-stored g c = λ in_bank tells me ps follows.
     none_one c.in_ok-answer.answer _ _
     (λ own. stores_in g.S.Stage g.F.Flash g.met.S.Stage.in_bank in_bank tells me heard c.hear_each.new.collector c.hear_each.new.flash own.collects)
     (returns-clause-follows g c me ps follows)
+
+pub returns-in_err-answer-clause-alone : goal.returns-in_err-answer-clause-alone
+returns-in_err-answer-clause-alone g c = λ me ps follows many.
+    let each = c.feed.ensures.heard (followed me ps) follows.hears in
+    c.hear_each.ensures.alone me (heard_by me ps) follows.collects
+    (packet_alone me c.args.packet.now ps c.feed.new.each c.pid_of.result c.pid_of.ensures each many)
+
+pub returns-clause-alone : goal.returns-clause-alone
+returns-clause-alone g c = λ me ps follows many.
+    let each = c.feed.ensures.heard (followed me ps) follows.hears in
+    c.hear_each.ensures.alone me (heard_by me ps) follows.collects
+    (packet_alone me c.args.packet.now ps c.feed.new.each c.pid_of.result c.pid_of.ensures each many)

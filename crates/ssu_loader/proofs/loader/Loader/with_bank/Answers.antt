@@ -11,12 +11,12 @@ use Rattle.ssu_loader.proofs.loader.Loader.with_bank.Goals as goal
 pub returns-clause-fresh : goal.returns-clause-fresh
 returns-clause-fresh g c =
     let me = receiver_of c.args.me.now (len_of c.args.bank) (current_of c.args.bank).software in
-    let stands = c.new-route.ensures.stands me refl (sym c.bank_len.ensures.value) in
+    let stands = c.in_ok-route.ensures.stands me refl (sym c.bank_len.ensures.value) in
     let pids : c.listens-pids.result.items ≡ listened me [] = c.listens-pids.ensures me [] stands in
     let hears = subst (λ (items : List ℕ). Hears c.listen.new.self (Listen items ∷ [])) pids (c.listen.ensures.stands [] c.in_ok-hearer.ensures) in
     record {
       hears = subst (λ (events : List Event). Hears c.listen.new.self events) (sym (followed_none me)) hears;
-      stands = subst (λ (items : List Heard). Stands me items c.new-route.result) (sym (heard_none me)) stands;
+      stands = subst (λ (items : List Heard). Stands me items c.in_ok-route.route) (sym (heard_none me)) stands;
       made_for = c.in_ok-stage.ensures.most;
       none = refl;
     }

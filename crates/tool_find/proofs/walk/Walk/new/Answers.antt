@@ -10,9 +10,9 @@ use Rattle.tool_find.proofs.walk.Walk.new.Goals as goal
 pub returns : goal.returns
 returns c =
     let me = receiver_of c.args.file.now in
-    let stands = c.new-route.ensures.stands me refl refl in
+    let stands = c.in_ok-route.ensures.stands me refl refl in
     let pids : c.listens-pids.result.items ≡ listened me [] = c.listens-pids.ensures me [] stands in
-    let P : List Heard → Type 0 = λ items. Stands me items c.new-route.result in
+    let P : List Heard → Type 0 = λ items. Stands me items c.in_ok-route.route in
     let Q : List Event → Type 0 = λ events. Hears c.listen.new.self events in
     record {
       stands = record {

@@ -1,0 +1,5 @@
+pub mod PacketLaws
+pub mod PlannedLaws
+pub mod CameLaws
+pub mod ChainLaws
+pub mod AiredLaws

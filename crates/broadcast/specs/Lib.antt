@@ -1,0 +1,3 @@
+pub mod Broadcasts
+pub mod Making
+pub mod Packets

@@ -1,0 +1,9 @@
+pub mod Lists
+pub mod HeardLaws
+pub mod ReceivedLaws
+pub mod TableLaws
+pub mod PlanGroups
+pub mod SpelledLaws
+pub mod KindLaws
+pub mod FileLaws
+pub mod ForBoxLaws

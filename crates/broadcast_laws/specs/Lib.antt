@@ -1,0 +1,4 @@
+pub mod Undeceived
+pub mod Received
+pub mod Planned
+pub mod OneOf

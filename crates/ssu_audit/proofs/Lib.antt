@@ -1,0 +1,16 @@
+pub mod OneKind
+pub mod Steps
+pub mod Holding
+pub mod Answering
+pub mod Beginning
+pub mod Below
+pub mod Places
+pub mod Missing
+pub mod Groups
+pub mod Filling
+pub mod Firsts
+pub mod FoundDii
+pub mod FoundDsi
+pub mod FewGroups
+pub mod OneAnswer
+pub mod OneImages

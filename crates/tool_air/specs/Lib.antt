@@ -1,0 +1,4 @@
+pub mod Airing
+pub mod Does
+pub mod Held
+pub mod Refusals
