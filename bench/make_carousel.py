@@ -1,6 +1,6 @@
 """Makes a transport stream with one group in a carousel: a DSI, a DII and the blocks of one module, on PID 256.
 
-usage: make_carousel.py FILE MEGABYTES    (at most 254 MiB of blocks; `load` takes groups of up to 128 MiB)
+usage: make_carousel.py FILE MEGABYTES [BLOCK_SIZE]    (at most 254 MiB of blocks; `load` takes groups of up to 128 MiB)
 """
 import random
 import struct
@@ -8,7 +8,8 @@ import sys
 import zlib
 
 REVERSED = bytes(int(f"{n:08b}"[::-1], 2) for n in range(256))
-PID, GROUP, BLOCK = 256, 0x80000002, 4066
+PID, GROUP = 256, 0x80000002
+BLOCK = int(sys.argv[3]) if len(sys.argv) > 3 else 4066
 
 
 def crc(data):

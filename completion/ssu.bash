@@ -12,7 +12,7 @@ _ssu() {
         ;;
     2)
         [[ $folder == --* ]] ||
-            mapfile -t COMPREPLY < <(compgen -W 'hear load find show build blank format boot replay air' -- "$word")
+            mapfile -t COMPREPLY < <(compgen -W 'hear load find show build blank format boot replay air audit sample' -- "$word")
         ;;
     3)
         case $command in
@@ -25,12 +25,21 @@ _ssu() {
                     COMPREPLY+=("$name")
             done
             ;;
-        hear | load)
+        boot | replay)
+            mapfile -t COMPREPLY < <(compgen -W spares -- "$word")
+            ;;
+        hear | load | audit)
             # the PIDs of the plan, where the folder has one
             [ -f "${folder:-.}/plan.toml" ] &&
                 mapfile -t COMPREPLY < <(compgen -W "$(sed -n 's/^[a-z]*_pid *= *\([0-9]*\).*/\1/p' "${folder:-.}/plan.toml")" -- "$word")
             ;;
         esac
+        ;;
+    4)
+        # the notice of a carousel is on another PID
+        [[ $command == audit && -f ${folder:-.}/plan.toml ]] &&
+            mapfile -t COMPREPLY < <(compgen -W "$(sed -n 's/^[a-z]*_pid *= *\([0-9]*\).*/\1/p' "${folder:-.}/plan.toml" | grep -vx -- "${COMP_WORDS[3]}")" -- "$word")
+        [ "$command" = format ] && mapfile -t COMPREPLY < <(compgen -W spares -- "$word")
         ;;
     esac
 }

@@ -27,6 +27,8 @@ COMMANDS = [
     (("boot",), DONE, True),
     (("replay",), DONE, True),
     (("air",), DONE, True),
+    (("audit", "258"), DONE, True),
+    (("sample", "0"), DONE, True),
     (("hear", "007"), USAGE, False),
     ((), USAGE, False),
 ]

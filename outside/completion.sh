@@ -26,11 +26,14 @@ same() {
 
 same 'examples/' ssu exam
 same '--help --version' ssu --
-same 'air blank boot build find format hear load replay show' ssu examples/nightly ''
+same 'air audit blank boot build find format hear load replay sample show' ssu examples/nightly ''
 same 'blank boot build' ssu examples/nightly b
 same 'boot.bin box.toml' ssu examples/nightly format bo
 same '256 257 258' ssu examples/nightly hear ''
 same '258' ssu examples/nightly load 258
+same '256 257 258' ssu examples/nightly audit ''
+same '256 257' ssu examples/nightly audit 258 ''
+same '' ssu examples/nightly load 258 ''
 same '' ssu examples/nightly find ''
 same '' ssu --help ''
 [ "$wrong" -eq 0 ] && echo "completion: as stated"

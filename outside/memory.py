@@ -85,6 +85,7 @@ def work(folder):
     for words in (("hear", "258"), ("find",), ("show",), ("air",), ("blank", "22"), ("format", "old.bin"), ("boot",), ("build",)):
         table.line(" ".join(words), peak(folder, words), SMALL)
     table.line("load 258", peak(folder, ("load", "258")), SMALL + group)
+    table.line("audit 258", peak(folder, ("audit", "258")), SMALL + 2 * group)
     table.line("replay, 22 blocks", peak(folder, ("replay",)), SMALL)
     folder.must("format", "old.bin")
     table.line("replay, 22 blocks, its data alone", least_data(folder), MIB - STACK + 22 * BLOCK // 16)
@@ -98,6 +99,7 @@ def work(folder):
     folder.must("blank", str(LARGE_BLOCKS))
     folder.must("format", "old.bin")
     table.line("load 258, a group of %d bytes" % BANK, peak(folder, ("load", "258")), SMALL + BANK)
+    table.line("audit 258, that group", peak(folder, ("audit", "258")), SMALL + BANK + BANK // 8)
     table.line("replay, %d blocks" % LARGE_BLOCKS, peak(folder, ("replay",)), SMALL + BLOCK_MAP)
     folder.must("format", "old.bin")
     table.line("replay, %d blocks, its data alone" % LARGE_BLOCKS, least_data(folder), MIB - STACK + BLOCK_MAP)

@@ -1,7 +1,7 @@
 #!/usr/bin/env python3
 """Refuses memory to a command: each request for it in turn, in a run of its own, until a run meets no more of them.
 
-`build`, `air` and `replay` are run so, with a library before the C library's that refuses one call of malloc or realloc. A run must end
+`build`, `air`, `replay`, `audit` and `sample 0` are run so, with a library before the C library's that refuses one call of malloc or realloc. A run must end
 with 15, `ssu: out of memory` and nothing printed, and leave every file as it was and make none; or, where it can do without, as it does with ample
 memory. Without a C compiler the script says so and ends with 0.
 
@@ -15,7 +15,7 @@ import tempfile
 from program import HERE, NO_MEMORY, Ended, Tally, in_folder, is_missing
 
 # Each command, and the file that it makes.
-COMMANDS = [(("build",), "air.ts"), (("air",), "aired.ts"), (("replay",), None)]
+COMMANDS = [(("build",), "air.ts"), (("air",), "aired.ts"), (("replay",), None), (("audit", "258"), None), (("sample", "0"), None)]
 # More requests than any of them makes.
 MOST = 5000
 

@@ -14,7 +14,7 @@ SSU = os.environ.get("SSU") or os.path.join(TOP, "crates", "ssu", "out", "ssu")
 
 # The exit codes that the scripts speak of.
 DONE, USAGE, BOX_REFUSED, PLAN_REFUSED, FOREIGN, NOTHING, INCOMPLETE, BAD_MODULE, ABSENT, READ_FAULT = 0, 2, 3, 4, 5, 6, 7, 8, 9, 10
-WRITE_FAULT, FLASH_FAULT, WORN, TOO_LONG, NO_MEMORY, NO_FIT, GEOMETRY, SHELF_FAULT, UNSETTLED, BUILD_REFUSED = range(11, 21)
+WRITE_FAULT, FLASH_FAULT, WORN, TOO_LONG, NO_MEMORY, NO_FIT, GEOMETRY, SHELF_FAULT, UNSETTLED, BUILD_REFUSED, AUDIT_REFUSED = range(11, 22)
 
 # A file system in memory, where there is one: a flash in a file is synced at each write.
 MEMORY = "/dev/shm"

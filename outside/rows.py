@@ -12,7 +12,7 @@ import shutil
 import sys
 
 import stream as s
-from program import (ABSENT, BAD_MODULE, BOX, BOX_REFUSED, BUILD_REFUSED, DONE, FLASH_FAULT, FOREIGN, GEOMETRY, INCOMPLETE, INSTALLED,
+from program import (ABSENT, AUDIT_REFUSED, BAD_MODULE, BOX, BOX_REFUSED, BUILD_REFUSED, DONE, FLASH_FAULT, FOREIGN, GEOMETRY, INCOMPLETE, INSTALLED,
                      NO_FIT, NO_MEMORY, NOTHING, OLD, PLAN_REFUSED, READ_FAULT, SHELF_FAULT, TOO_LONG, UNSETTLED, USAGE, WORN, WRITE_FAULT,
                      BLOCK, BOOT_NEW, BOOT_OLD, FIRST, PLAN, SECOND, Ended, Tally, in_folder)
 
@@ -56,7 +56,7 @@ class Case(Tally):
 def words_of_the_command_line(case):
     case.same("no words", case.folder.answer()[:1] + ("ssu: usage\n",), (USAGE, "ssu: usage\n"))
     for words in (("hear", "8192"), ("hear", "007"), ("hear", "-1"), ("hear", "+1"), ("hear", ""), ("hear",), ("hear", "1", "2"), ("blank", "3"),
-                  ("blank", "65537"), ("format", ".hidden"), ("format", "a/b"), ("format", "x" * 65), ("find", "1"), ("nothing",), ("",)):
+                  ("blank", "65537"), ("format", ".hidden"), ("format", "a/b"), ("format", "x" * 65), ("find", "1"), ("audit", "7", "7"), ("audit", "7", "8192"), ("audit",), ("nothing",), ("",)):
         case.answers(" ".join(words) or "an empty command", words, USAGE, err="usage")
 
 
@@ -120,6 +120,24 @@ def a_small_broadcast(case):
                  "6 groups 1\n7 modules 1 bytes 9\n")
     folder.write("air.ts", b"")
     case.answers("find in an empty stream", ("find",), DONE, NONE)
+
+
+def audits(case):
+    folder = case.folder
+    folder.write("a.bin", NINE)
+    folder.write("plan.toml", SMALL_PLAN.replace("turns = 7", "turns = 40"))
+    folder.must("build")
+    whole = folder.read("air.ts")
+    case.answers("audit", ("audit", "258"), DONE, "audit ok groups 1 blocks 1\n")
+    folder.write("air.ts", whole[:6 * 188])
+    case.answers("audit of six turns", ("audit", "258"), AUDIT_REFUSED, "missing 2147483650 place 0\n")
+    folder.write("air.ts", b"")
+    case.answers("audit of an empty stream", ("audit", "258", "257"), AUDIT_REFUSED, "no dsi\n")
+    server, other = s.dsi([(s.GROUP, 9, FITTING)]), b"123456780"
+    for what, info, infos, line in (("CRCs", s.crc_descriptor(s.crc(NINE)), s.crc_descriptor(s.crc(other)), "differ dii 1 4\n"),
+                                    ("zeros", s.crc_descriptor(0), s.crc_descriptor(0), "differ block 2 5\n")):
+        sections = [server, s.dii([(1, 9, 0, info)]), s.ddb(1, 0, NINE), server, s.dii([(1, 9, 0, infos)]), s.ddb(1, 0, other)]
+        case.on_carousel("audit of two streams, " + what, ("audit", "258"), sections, AUDIT_REFUSED, line)
 
 
 def plans_and_boxes(case):
@@ -291,7 +309,7 @@ def a_night(case):
 
 def work(folder):
     case = Case(folder)
-    for cases in (words_of_the_command_line, sections, times, a_small_broadcast, plans_and_boxes, offers, flashes, replays, carousels,
+    for cases in (words_of_the_command_line, sections, times, a_small_broadcast, audits, plans_and_boxes, offers, flashes, replays, carousels,
                   faults_of_files, limits, a_night):
         folder.clear()
         cases(case)

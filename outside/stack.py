@@ -21,7 +21,7 @@ end = "2024-04-01T01:00:00"
 period_hours = 24
 duration_hours = 2
 """
-COMMANDS = [("hear", "258"), ("load", "258"), ("find",), ("show",), ("build",), ("blank", "8"), ("format", "first.bin"), ("boot",), ("replay",), ("air",)]
+COMMANDS = [("hear", "258"), ("load", "258"), ("find",), ("show",), ("build",), ("blank", "8"), ("format", "first.bin"), ("boot",), ("replay",), ("air",), ("audit", "258", "257"), ("sample", "0")]
 
 
 def run(folder, words, kibibytes):

@@ -3,7 +3,7 @@ use Rattle.std.proofs.Common.{zero, suc, ◌≡◌, ℕ, ◌+◌, ◌<◌, ◌�
 use Rattle.std.proofs.lemmas.Bool.{and_parts}
 use Rattle.std.proofs.lemmas.List.Elements.{All-cons}
 use Rattle.toml.specs.Data.{Data, string, integer, float, boolean, datetime, array, table, Items, no_items, item, Members, as_array}
-use Rattle.toml_fields.specs.Document.{document_of}
+use Rattle.toml_fields.specs.Reading.{document_of}
 use Rattle.toml_fields.specs.Place.{item_count, whole_in}
 use Rattle.air_channel.specs.Scripts.{AreChanges, AreNumbers, IsChange, byte_number, most_entries, most_number, rises}
 use Rattle.air_channel.specs.ScriptText.{change_of, each_of, few_items, number_of, prefix, script_in, script_of}

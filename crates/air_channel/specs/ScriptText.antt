@@ -2,8 +2,7 @@
 use Rattle.std.specs.Prelude.{◌≡◌, ℕ, Bool, not, ◌||◌, codes, List, [], ◌∷◌, ◌++◌, Option, Some, None, is_some, Ok, Err, nat_le}
 use Rattle.std.specs.Prelude.{if◌then◌else◌, unwrap_or, map, option_map, option_and_then}
 use Rattle.toml.specs.Data.{Data, array, Items, no_items, item, as_array}
-use Rattle.toml_fields.specs.Reading.{Reading, ◌>>=◌, or_bad}
-use Rattle.toml_fields.specs.Document.{document_of}
+use Rattle.toml_fields.specs.Reading.{Reading, ◌>>=◌, or_bad, document_of}
 use Rattle.toml_fields.specs.Place.{Place, find_field, item_count, optional, optional_number, whole_in}
 use Rattle.air_channel.specs.Scripts.{ScriptData, byte_number, most_entries, most_number, rises}
 use Rattle.air_channel.specs.declared.change.Change.{Change}

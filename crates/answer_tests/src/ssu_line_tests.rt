@@ -4,10 +4,11 @@ use section_kind::SectionKind;
 use ssu_answer::{Chosen, Level};
 use ssu_compat::SwId;
 use ssu_line::{
-    Line, aired, bad_module, blank, booted, built, carousel, component, formatted, groups,
-    incomplete, installed, loaded, modules, nothing, notices, program, sampled, services, shown,
-    unsettled,
+    Line, aired, audit_ok, audit_refused, bad_module, blank, booted, built, carousel, component,
+    formatted, groups, incomplete, installed, loaded, modules, nothing, notices, program, sampled,
+    services, shown, unsettled,
 };
+use ssu_status::{AuditNo, AuditYes};
 use ssu_time::Utc;
 use std::test::Fail;
 use ts_packet::Pid;
@@ -58,6 +59,41 @@ fn results_are_told(rt: HostRuntime) -> Result<(), Fail> {
     ];
     for (line, text) in rows {
         assert_eq!(rt; line.as_str(), text);
+    }
+    Ok(())
+}
+
+#[test]
+fn audits_are_told(rt: HostRuntime) -> Result<(), Fail> {
+    let yes = AuditYes {
+        groups: 1,
+        blocks: 65_536,
+    };
+    assert_eq!(rt; audit_ok(yes).as_str(), "audit ok groups 1 blocks 65536\n");
+    let rows: [(AuditNo, &str); 11] = [
+        (AuditNo::BlockDiffers(2, 5), "differ block 2 5\n"),
+        (AuditNo::DsiDiffers(0, 3), "differ dsi 0 3\n"),
+        (AuditNo::DiiDiffers(1, 4), "differ dii 1 4\n"),
+        (AuditNo::TooManyBlocks(65_537), "too many blocks 65537\n"),
+        (AuditNo::NoDsi, "no dsi\n"),
+        (AuditNo::NoDii(2147483650), "no dii 2147483650\n"),
+        (AuditNo::Unusable(2147483650), "unusable 2147483650\n"),
+        (
+            AuditNo::SizeDiffers(2147483650, 8, 9),
+            "size 2147483650 listed 8 total 9\n",
+        ),
+        (
+            AuditNo::PlaceMissing(2147483650, 0),
+            "missing 2147483650 place 0\n",
+        ),
+        (
+            AuditNo::BadModule(2147483650, 1),
+            "bad module 2147483650 1\n",
+        ),
+        (AuditNo::NoticeApart(7), "notice apart 7\n"),
+    ];
+    for (no, text) in rows {
+        assert_eq!(rt; audit_refused(no).as_str(), text);
     }
     Ok(())
 }

@@ -1,7 +1,9 @@
 //! The words of each command, words that are none, and the code and the text of each status.
 
 use ssu_compat::SwId;
-use ssu_status::{BuildFault, Chosen, Command, FieldName, FileName, Level, Status, made_file};
+use ssu_status::{
+    AuditNo, BuildFault, Chosen, Command, FieldName, FileName, Level, Status, made_file,
+};
 use std::alloc::{AllocError, Global};
 use std::test::Fail;
 use ts_packet::Pid;
@@ -17,9 +19,10 @@ fn owned(alloc: Global, words: &[&str]) -> Result<Vec<String>, AllocError> {
 #[test]
 fn the_words_of_each_command_are_read(rt: HostRuntime) -> Result<(), Fail> {
     let pid = Pid::new(8191).ok_or("a PID")?;
+    let notice = Pid::new(257).ok_or("a PID")?;
     let name = FileName::from("a.bin").map_err(|_| "a name")?;
     // words behind the folder, command, file that is made
-    let rows: [(&[&str], Command, &str); 11] = [
+    let rows: [(&[&str], Command, &str); 15] = [
         (&["hear", "8191"], Command::Hear(pid), ""),
         (&["load", "8191"], Command::Load(pid), "group.bin"),
         (&["find"], Command::Find, ""),
@@ -31,6 +34,14 @@ fn the_words_of_each_command_are_read(rt: HostRuntime) -> Result<(), Fail> {
         (&["boot"], Command::Boot, "image.bin"),
         (&["replay"], Command::Replay, ""),
         (&["air"], Command::Air, "aired.ts"),
+        (&["audit", "8191"], Command::Audit(pid), ""),
+        (
+            &["audit", "8191", "257"],
+            Command::AuditWithNotice(pid, notice),
+            "",
+        ),
+        (&["sample", "0"], Command::Sample(0), ""),
+        (&["sample", "999999"], Command::Sample(999_999), ""),
     ];
     for (behind, command, made) in rows {
         let mut words = owned(rt.alloc(), &["folder"])?;
@@ -45,7 +56,7 @@ fn the_words_of_each_command_are_read(rt: HostRuntime) -> Result<(), Fail> {
 
 #[test]
 fn other_words_are_no_command(rt: HostRuntime) -> Result<(), Fail> {
-    let rows: [&[&str]; 18] = [
+    let rows: [&[&str]; 30] = [
         &[],
         &["folder"],
         &["folder", "hear"],
@@ -64,6 +75,18 @@ fn other_words_are_no_command(rt: HostRuntime) -> Result<(), Fail> {
         &["folder", "boot", "0"],
         &["folder", "replay", "0"],
         &["folder", "air", "0"],
+        &["folder", "audit"],
+        &["folder", "audit", "8192"],
+        &["folder", "audit", "7", "8192"],
+        &["folder", "audit", "7", "7"],
+        &["folder", "audit", "7", "8", "9"],
+        &["folder", "sample"],
+        &["folder", "sample", "1000000"],
+        &["folder", "sample", "00"],
+        &["folder", "sample", "-1"],
+        &["folder", "sample", "1.0"],
+        &["folder", "sample", ""],
+        &["folder", "sample", "1", "2"],
     ];
     for words in rows {
         let words = owned(rt.alloc(), words)?;
@@ -117,6 +140,7 @@ fn each_status_has_its_code_and_text(rt: HostRuntime) -> Result<(), Fail> {
             20,
             "too many sections: 66918",
         ),
+        (Status::AuditRefused(AuditNo::NoDsi), 21, ""),
     ];
     for (status, code, text) in rows {
         assert_eq!(rt; status.code(), code);

@@ -1,18 +1,46 @@
 -- What a text says of a box: its fields, in the order in which they are looked at.
-use Rattle.std.specs.Prelude.{◌≡◌, ℕ, Bool, false, codes, List, [], ◌++◌, Option, Ok, Err, unwrap_or}
+use Rattle.std.specs.Prelude.{◌≡◌, ℕ, Bool, false, codes, List, [], ◌++◌, Option, Ok, Err, unwrap_or, ◌&&◌, length, Some, None, nat_le, if◌then◌else◌}
 use Rattle.std.specs.Result.{result_ok}
 use Rattle.arrayvec.specs.ArrayVec.{ArrayVec}
 use Rattle.si_desc.specs.declared.linkages.ServiceRef.{ServiceRef}
 use Rattle.ssu_compat.specs.declared.rule.Rule.{Rule}
 use Rattle.ssu_compat.specs.declared.rule.SwId.{SwId}
 use Rattle.toml.specs.Data.{Members}
-use Rattle.toml_fields.specs.Reading.{Reading, ◌>>=◌, or_bad, checked}
-use Rattle.toml_fields.specs.Document.{document_of}
+use Rattle.toml_fields.specs.Reading.{Reading, ◌>>=◌, or_bad, checked, document_of}
 use Rattle.toml_fields.specs.Place.{Place, number, text, optional_flag, optional_text, optional_table}
-use Rattle.box_file.specs.Values.{rule_of, mac_of, serial_of}
 use Rattle.box_file.specs.declared.file.BoxFile.{BoxFile}
 use Rattle.box_file.specs.declared.file.BoxFault.{BoxFault}
 use Rattle.box_file.specs.declared.file.BoxFault.TheVariants.{Field, Memory}
+use Rattle.std.specs.List.{list_all}
+use Rattle.std.specs.Str.{bytes_eq}
+use Rattle.hex.specs.Hex.{decode_sized}
+use Rattle.ssu_compat.specs.declared.rule.Rule.TheVariants.{Newer, Different, Any}
+
+-- ---- what the texts of single fields may be
+
+-- the rule of that name
+abbrev pub rule_of : List ℕ → Option Rule
+rule_of text =
+    if bytes_eq text (codes "newer") then Some Newer
+    else (if bytes_eq text (codes "different") then Some Different
+    else (if bytes_eq text (codes "any") then Some Any else None))
+
+-- the six bytes that twelve hexadecimal digits write, with letters in either case
+abbrev pub mac_of : List ℕ → Option (List ℕ)
+mac_of text = result_ok (decode_sized text 6)
+
+-- a character from space to ~
+abbrev pub is_printable : ℕ → Bool
+is_printable c = nat_le 32 c && nat_le c 126
+
+-- 1 to 32 characters from space to ~
+abbrev pub is_serial : List ℕ → Bool
+is_serial text = (nat_le 1 (length text) && nat_le (length text) 32) && list_all is_printable text
+
+abbrev pub serial_of : List ℕ → Option (ArrayVec ℕ)
+serial_of text = if is_serial text then Some (record { items = text }) else None
+
+-- ---- the fields
 
 -- the OUI, the model and the version of the hardware
 unfoldable pub hardware : Place → Reading (ℕ × ℕ × ℕ)

@@ -1,7 +1,7 @@
 //! What the texts of single fields may be.
 ghost use Rattle.std.specs.Prelude.{◌≡◌};
 ghost use Rattle.std.specs.List.{list_all};
-ghost use Rattle.box_file.specs.Values.{rule_of, mac_of, serial_of, is_serial, is_printable};
+ghost use Rattle.box_file.specs.BoxText.{rule_of, mac_of, serial_of, is_serial, is_printable};
 
 use arrayvec::ArrayVec;
 use hex::FromHex;

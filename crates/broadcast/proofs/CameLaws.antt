@@ -162,15 +162,15 @@ came b me rest g former x y (Installed chosen) air boots ends =
     let s = settled b me i.front.before i.front.packet i.front.behind (Whole chosen i.image) air i.front.parts i.front.within i.reached in
     record { is = (i.image, s.all); out = inr s.out; left = i }
 came b me rest g former x y (Nothing level) air boots ends =
-    let e = to_end b me rest (λ heard. IsVerdict me heard (Nothing level)) air ends.0 in
-    record { is = e.now; out = inl e.few; left = ends.1 }
+    let e = to_end b me rest _ air ends.0 in
+    record { is = e.now.0; out = inl e.few; left = ends.1 }
 came b me rest g former x y (Incomplete chosen count) air boots ends =
     let e = to_end b me rest _ air ends.0 in
     record { is = e.now.0; out = inl e.few; left = ends.1 }
 came b me rest g former x y (BadModule id want found) air boots ends =
     let u = up_to b me rest (λ heard. Reaches me heard (Wrong id want found)) (IsOpen me) air ends.0 in
     let s = settled_at b me (IsOpen me) (Wrong id want found) air u in
-    record { is = s.all; out = inr s.out; left = ends.1 }
+    record { is = s.all; out = inr s.out; left = ends.1.0 }
 came b me rest g former x y Unsettled air boots ends =
     let u = up_to b me rest _ (IsOpen me) air ends.0 in
     let s = settled b me u.front.before u.front.packet u.front.behind TooMany air u.front.parts u.front.within u.now.0 in

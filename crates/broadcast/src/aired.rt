@@ -23,6 +23,8 @@ use std::alloc::Global;
 use ts_section::Timed;
 
 /// The bytes of the packets of a plan, as a script changes them. A piece that memory has no room for is want of memory.
+// The packets that wait for the sink lie on the stack, 64 KiB: in a frame of its own, which is gone before the box takes them.
+#[inline(never)]
 pub(crate) fn aired_bytes(
     alloc: Global,
     plan: &Plan,

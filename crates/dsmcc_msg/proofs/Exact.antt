@@ -10,18 +10,18 @@ use Rattle.ssu_compat.proofs.Exact.{compat_exact}
 use Rattle.section_form.specs.Long.{has_table}
 use Rattle.section_form.proofs.Exact.{section_of_exact}
 use Rattle.wire.proofs.InsideLaws.{inside_exact, noted_exact}
-use Rattle.dsmcc_msg.specs.Message.{message_fields, message, has_id, payload_of, message_of, second, in_table}
+use Rattle.dsmcc_msg.specs.Message.{message, has_id, message_of, in_table}
 use Rattle.dsmcc_msg.specs.Message.{protocol_discriminator, dsmcc_type, control_table, block_table}
-use Rattle.dsmcc_msg.specs.Control.{counted_groups, group_list, private_groups}
-use Rattle.dsmcc_msg.specs.Control.{dsi_payload, dsi_id, dsi_fields, dsi_message, dsi}
-use Rattle.dsmcc_msg.specs.Control.{download_fields, dii_payload, dii_id, fits_a_section, dii_fields, dii_message}
+use Rattle.dsmcc_msg.specs.Control.{group_list}
+use Rattle.dsmcc_msg.specs.Control.{dsi_payload, dsi_id, dsi_message, dsi}
+use Rattle.dsmcc_msg.specs.Control.{dii_payload, dii_id, fits_a_section, dii_fields, dii_message}
 use Rattle.dsmcc_msg.specs.Control.{dii}
-use Rattle.dsmcc_msg.specs.Block.{block_fields, ddb_payload, ddb_id, ddb_fields, ddb_message, ddb}
+use Rattle.dsmcc_msg.specs.Block.{ddb_payload, ddb_id, ddb_fields, ddb_message, ddb}
 use Rattle.dsmcc_msg.specs.Exact.{group_entry_exact, module_entry_exact}
 
 pub message_exact : IsFront message
 unfolding message
-message_exact = reads_exact message_fields (
+message_exact = reads_exact _ (
     pair_exact (fixed_exact protocol_discriminator number1) (
     pair_exact (fixed_exact dsmcc_type number1) (
     pair_exact number2 (
@@ -30,27 +30,27 @@ message_exact = reads_exact message_fields (
     with_exact number1 (λ adaptation. sized_exact number2 (after_exact adaptation rest_exact))))))))
 
 pub message_of_exact : {A : Type 0} (id : ℕ) {payload : Whole A} → IsWhole payload → IsWhole (message_of id payload)
-message_of_exact id h = inside_exact payload_of (whole_such_exact (has_id id) (only_exact message_exact)) h
+message_of_exact id h = inside_exact _ (whole_such_exact (has_id id) (only_exact message_exact)) h
 
 pub in_table_exact : {A : Type 0} (table : ℕ) {body : Whole A} → IsWhole body → IsWhole (in_table table body)
-in_table_exact table h = whole_reads_exact second (section_of_exact (has_table table) h)
+in_table_exact table h = whole_reads_exact _ (section_of_exact (has_table table) h)
 
 pub group_list_exact : IsWhole group_list
 unfolding group_list
-group_list_exact = whole_reads_exact counted_groups (
+group_list_exact = whole_reads_exact _ (
     then_exact number2 (λ count.
     several_exact count group_entry_exact (only_exact (sized_exact number2 rest_exact))))
 
 pub dsi_payload_exact : IsWhole dsi_payload
 unfolding dsi_payload
-dsi_payload_exact = whole_reads_exact private_groups (only_exact (
+dsi_payload_exact = whole_reads_exact _ (only_exact (
     pair_exact (skip_exact 20 refl) (
     pair_exact (fixed_exact 0 number2) (
     sized_exact number2 group_list_exact))))
 
 pub dsi_message_exact : IsWhole dsi_message
 unfolding dsi_message
-dsi_message_exact = whole_reads_exact dsi_fields (message_of_exact dsi_id dsi_payload_exact)
+dsi_message_exact = whole_reads_exact _ (message_of_exact dsi_id dsi_payload_exact)
 
 pub dsi_exact : IsWhole dsi
 unfolding dsi
@@ -58,7 +58,7 @@ dsi_exact = in_table_exact control_table dsi_message_exact
 
 pub dii_payload_exact : IsWhole dii_payload
 unfolding dii_payload
-dii_payload_exact = whole_reads_exact download_fields (
+dii_payload_exact = whole_reads_exact _ (
     then_exact number4 (λ _.
     then_exact number2 (λ _.
     then_exact (skip_exact 10 refl) (λ _.
@@ -76,7 +76,7 @@ dii_exact = in_table_exact control_table dii_message_exact
 
 pub ddb_payload_exact : IsWhole ddb_payload
 unfolding ddb_payload
-ddb_payload_exact = whole_reads_exact block_fields (
+ddb_payload_exact = whole_reads_exact _ (
     then_exact number2 (λ _.
     then_exact number1 (λ _.
     then_exact (skip_exact 1 refl) (λ _.

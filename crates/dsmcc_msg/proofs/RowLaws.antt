@@ -7,7 +7,7 @@ use Rattle.wire.specs.Exact.{IsFront}
 use Rattle.wire.proofs.Laws.{exactly_exact}
 use Rattle.wire.specs.Items.{items_of}
 use Rattle.wire.proofs.ItemLaws.{each_push, items_spelled}
-use Rattle.dsmcc_msg.specs.Row.{IsRow}
+use Rattle.dsmcc_msg.specs.Written.{IsRow}
 
 -- What a row says of its items.
 pub record Lists {A : Type 0} (format : Front A) (count : ℕ) (bytes : List ℕ) : Type 0 where

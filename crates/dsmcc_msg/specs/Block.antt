@@ -18,12 +18,9 @@ pub record Block : Type 0 where
   pub number : ℕ
   pub bytes : List ℕ
 
-abbrev pub block_fields : ℕ × (ℕ × (Unit {0} × (ℕ × List ℕ))) → Block
-block_fields x = record { module_id = x.0; version = x.1.0; number = x.1.1.1.0; bytes = x.1.1.1.1 }
-
 -- moduleId 16, moduleVersion 8, reserved 8, blockNumber 16, and the bytes of the block to the end
 unfoldable pub ddb_payload : Whole Block
-ddb_payload = whole_reads block_fields (
+ddb_payload = whole_reads (λ x. record { module_id = x.0; version = x.1.0; number = x.1.1.1.0; bytes = x.1.1.1.1 }) (
     number 2 then λ _.
     number 1 then λ _.
     skip 1 then λ _.

@@ -19,32 +19,23 @@ pub record DsiFields : Type 0 where
   pub transaction : ℕ
   pub groups : List GroupFields
 
-abbrev pub group_fields : ℕ × (ℕ × (List EntryFields × List ℕ)) → GroupFields
-group_fields x = record { id = x.0; size = x.1.0; compat = x.1.1.0; info = x.1.1.1 }
-
 -- GroupId 32, GroupSize 32, GroupCompatibility, GroupInfoLength 16 and bytes
 unfoldable pub group_entry : Front GroupFields
-group_entry = reads group_fields (
+group_entry = reads (λ x. record { id = x.0; size = x.1.0; compat = x.1.1.0; info = x.1.1.1 }) (
     number 4 &
     number 4 &
     compat &
     sized (number 2) rest)
 
-abbrev pub counted_groups : ℕ × (List GroupFields × List ℕ) → List GroupFields
-counted_groups x = x.1.0
-
 -- NumberOfGroups 16, the groups, PrivateDataLength 16 and bytes to the end
 unfoldable pub group_list : Whole (List GroupFields)
-group_list = whole_reads counted_groups (
+group_list = whole_reads (λ x. x.1.0) (
     number 2 then λ count.
     several count group_entry (only (sized (number 2) rest)))
 
-abbrev pub private_groups : Unit {0} × (Unit {0} × List GroupFields) → List GroupFields
-private_groups x = x.1.1
-
 -- serverId of 20 bytes, a compatibility length of 0, privateDataLength 16 and in as many bytes, to the end, the groups
 unfoldable pub dsi_payload : Whole (List GroupFields)
-dsi_payload = whole_reads private_groups (only (
+dsi_payload = whole_reads (λ x. x.1.1) (only (
     skip 20 &
     fixed (number 2) 0 &
     sized (number 2) group_list))
@@ -52,11 +43,8 @@ dsi_payload = whole_reads private_groups (only (
 abbrev pub dsi_id : ℕ
 dsi_id = 0x1006
 
-abbrev pub dsi_fields : MessageFields × List GroupFields → DsiFields
-dsi_fields x = record { transaction = x.0.transaction; groups = x.1 }
-
 unfoldable pub dsi_message : Whole DsiFields
-dsi_message = whole_reads dsi_fields (message_of dsi_id dsi_payload)
+dsi_message = whole_reads (λ x. record { transaction = x.0.transaction; groups = x.1 }) (message_of dsi_id dsi_payload)
 
 unfoldable pub dsi : Whole DsiFields
 dsi = in_table control_table dsi_message
@@ -77,12 +65,9 @@ pub record DiiFields : Type 0 where
   pub modules : List ModuleFields
   pub message : List ℕ
 
-abbrev pub module_fields : ℕ × (ℕ × (ℕ × List ℕ)) → ModuleFields
-module_fields x = record { id = x.0; size = x.1.0; version = x.1.1.0; info = x.1.1.1 }
-
 -- moduleId 16, moduleSize 32, moduleVersion 8, moduleInfoLength 8 and bytes
 unfoldable pub module_entry : Front ModuleFields
-module_entry = reads module_fields (
+module_entry = reads (λ x. record { id = x.0; size = x.1.0; version = x.1.1.0; info = x.1.1.1 }) (
     number 2 &
     number 4 &
     number 1 &
@@ -94,13 +79,10 @@ pub record Download : Type 0 where
   pub block_size : ℕ
   pub modules : List ModuleFields
 
-abbrev pub download_fields : ℕ × (ℕ × (Unit {0} × (List EntryFields × (ℕ × (List ModuleFields × List ℕ))))) → Download
-download_fields x = record { id = x.0; block_size = x.1.0; modules = x.1.1.1.1.1.0 }
-
 -- downloadId 32, blockSize 16; windowSize 8, ackPeriod 8, tCDownloadWindow 32 and tCDownloadScenario 32, at which nobody
 -- looks; a compatibility descriptor, numberOfModules 16, the modules, privateDataLength 16 and bytes to the end
 unfoldable pub dii_payload : Whole Download
-dii_payload = whole_reads download_fields (
+dii_payload = whole_reads (λ x. record { id = x.0; block_size = x.1.0; modules = x.1.1.1.1.1.0 }) (
     number 4 then λ _.
     number 2 then λ _.
     skip 10 then λ _.

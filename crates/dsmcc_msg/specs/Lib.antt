@@ -4,4 +4,3 @@ pub mod Block
 pub mod Exact
 pub mod View
 pub mod Written
-pub mod Row

@@ -1,12 +1,13 @@
 -- The spelling that the writers make: reserved bytes are 0xFF, and there is no adaptation. All numbers have the highest
 -- byte first.
-use Rattle.std.specs.Prelude.{ℕ, ◌+◌, ◌%◌, ◌^◌, min, false, List, ◌++◌, length, replicate}
+use Rattle.std.specs.Prelude.{ℕ, ◌+◌, ◌%◌, ◌^◌, min, false, List, ◌++◌, length, replicate, ◌≤◌, IsSome}
 use Rattle.wire.specs.Number.{bytes_of}
 use Rattle.section_form.specs.Long.{LongFields}
 use Rattle.section_form.specs.Written.{long_bytes, only_section}
 use Rattle.dsmcc_msg.specs.Message.{protocol_discriminator, dsmcc_type, control_table, block_table}
 use Rattle.dsmcc_msg.specs.Control.{GroupFields, ModuleFields, DiiFields, dsi_id, dii_id}
 use Rattle.dsmcc_msg.specs.Block.{DdbFields, ddb_id}
+use Rattle.wire.specs.Format.{Front, exactly}
 
 abbrev pub message_bytes : ℕ → ℕ → List ℕ → List ℕ
 message_bytes id transaction payload =
@@ -135,3 +136,9 @@ ddb_head d last_block = record {
 
 unfoldable pub ddb_bytes : DdbFields → ℕ → List ℕ
 ddb_bytes d last_block = long_bytes false (ddb_head d last_block)
+
+-- The bytes are as many items, whole, and no more than `most` bytes.
+pub record IsRow {A : Type 0} (format : Front A) (count most : ℕ) (bytes : List ℕ) : Type 0 where
+  pub whole : IsSome ((exactly count format).of bytes)
+  pub few : count ≤ length bytes
+  pub room : length bytes ≤ most

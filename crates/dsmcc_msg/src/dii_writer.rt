@@ -31,8 +31,7 @@ pub struct DiiWriter {
 impl Model for DiiWriter {
     ghost use Rattle.wire.specs.Items.{items_of};
     ghost use Rattle.dsmcc_msg.specs.Control.{module_entry};
-    ghost use Rattle.dsmcc_msg.specs.Row.{IsRow};
-    ghost use Rattle.dsmcc_msg.specs.Written.{DiiDraft};
+    ghost use Rattle.dsmcc_msg.specs.Written.{IsRow, DiiDraft};
 
     ghost Value = { DiiDraft };
 

@@ -30,8 +30,7 @@ pub struct DsiWriter {
 impl Model for DsiWriter {
     ghost use Rattle.wire.specs.Items.{items_of};
     ghost use Rattle.dsmcc_msg.specs.Control.{group_entry};
-    ghost use Rattle.dsmcc_msg.specs.Row.{IsRow};
-    ghost use Rattle.dsmcc_msg.specs.Written.{DsiDraft};
+    ghost use Rattle.dsmcc_msg.specs.Written.{IsRow, DsiDraft};
 
     ghost Value = { DsiDraft };
 

@@ -3,18 +3,18 @@ use Rattle.std.specs.Prelude.{true}
 use Rattle.std.proofs.Common.{◌≡◌, ℕ, ◌+◌, ◌-◌, ◌≤◌, List, length, get_or, refl, sym, ◌∙◌, ap, subst, arith}
 use Rattle.flash_dev.specs.Changes.{Changes, IsBlank, IsErased, IsProgrammed, IsTornProgram}
 use Rattle.flash_bank.specs.Bank.{Fits, LeavesBegun, LeavesCommitted, LeavesFilled, block_of, current_of, geometry_of, is_begun, spare_bank, spare_record}
-use Rattle.flash_bank.specs.Layout.{Geometry, bank_len, bank_place, record_place}
+use Rattle.flash_bank.specs.Layout.{Geometry, HoldsRecord, bank_len, bank_place, record_place}
 use Rattle.flash_bank.specs.Leaving.{SameOutsideSpare}
 use Rattle.flash_bank.specs.Record.{IsInRange, record_of, written}
 use Rattle.flash_bank.specs.Runs.{IsOutside}
-use Rattle.flash_bank.specs.Sound.{IsSound, IsCurrent, record_in, number_in}
+use Rattle.flash_bank.specs.Sound.{Boot, IsSound, IsCurrent, PrevOf, record_in, number_in}
 use Rattle.flash_bank.specs.Spare.{CutsSpare, ErasesThen}
 use Rattle.flash_bank.specs.declared.bank.Bank.{Bank}
 use Rattle.flash_bank.specs.declared.record.Record.{Record}
 use Rattle.flash_bank.proofs.PairsLemmas.{whole_byte, whole-written}
 use Rattle.flash_bank.proofs.RunsLemmas.{programmed_torn}
 use Rattle.flash_bank.proofs.SoundLemmas.{Stays, current_still, keeps, one_current}
-use Rattle.flash_bank.proofs.SpareLemmas.{Adds, cuts_keep, cuts_outside, cuts_raised, cuts_size, done_adds, erased_block, erased_stays, filled_blank, filled_keeps, filled_stays, torn_keeps}
+use Rattle.flash_bank.proofs.SpareLemmas.{Adds, blank_not_whole, cuts_keep, cuts_outside, cuts_raised, cuts_size, done_adds, erased_block, erased_stays, filled_blank, filled_keeps, filled_stays, torn_keeps}
 
 module _ (b : Bank) (x : List ℕ) (fits : Fits b x) where
   abbrev g : Geometry
@@ -82,6 +82,13 @@ module _ (b : Bank) (x : List ℕ) (fits : Fits b x) where
   begun_bank y erases k lt = erases.bank_blocks.inside k lt
 
   module _ (begun : is_begun b ≡ true) where
+    -- what boot took before is there no longer
+    pub begun_gone : (boot : Boot) → PrevOf g x boot → ⊥
+    begun_gone boot from =
+        let is : from.block ≡ r = one_current g x from.block r from.current fits.current in
+        let valid : HoldsRecord g x (1 - r) = subst (λ (q : ℕ). HoldsRecord g x (1 - q)) is from.valid in
+        blank_not_whole x (record_place g (1 - r)) (fits.blank begun) valid.whole
+
     pub spare_at : (at n : ℕ) (P : ℕ → ℕ → ℕ → Type 0) (y : List ℕ) → Changes (spare_bank b + at) n P x y → Changes (bank_place g (1 - r) + at) n P x y
     spare_at at n P y changes = subst (λ (k : ℕ). Changes (bank_place g k + at) n P x y) other changes
 

@@ -22,8 +22,8 @@ const PIECE: usize = 256;
 /// Answers `Geometry` exactly where the number or the length of the blocks is out of the limits of the layout: 4 to
 /// 65,536 blocks of 256 to 65,536 bytes, a multiple of 256, and 268,435,456 bytes at most; `Flash` only where the
 /// flash failed and its count of faults rose; `Foreign` where the contents are not sound; `Write` only where the sink
-/// failed and its count of faults rose. At `Geometry` and `Foreign` nothing was put, at `Flash` and `Write` nothing
-/// or a prefix of the image.
+/// failed and its count of faults rose. At `Geometry` and `Foreign` the sink is as before, at `Flash` and `Write` it got
+/// nothing or a prefix of the image.
 pub fn boot<F: Flash, W: Sink>(flash: &mut F, sink: &mut W) -> Result<Record, BootFault>
     ensures whole { F.tells → IfOk result (λ head. (image : List ℕ)
         × BootOf (blocks_of F.Flash flash.old)
@@ -43,7 +43,7 @@ pub fn boot<F: Flash, W: Sink>(flash: &mut F, sink: &mut W) -> Result<Record, Bo
     // The contents are not sound.
     ensures foreign { F.tells → IsErrOf result BootFault.Foreign
         → IsSound (blocks_of F.Flash flash.old) (F.contents flash.old) → ⊥ }
-    ensures refused { IsErrOf result BootFault.Geometry ⊎ IsErrOf result BootFault.Foreign → W.contents sink.new ≡ W.contents sink.old }
+    ensures refused { IsErrOf result BootFault.Geometry ⊎ IsErrOf result BootFault.Foreign → sink.new ≡ sink.old }
     ensures sound { F.tells → OnOk result
         (IsSound (blocks_of F.Flash flash.old) (F.contents flash.old)) }
     ensures write { IsErrOf result BootFault.Write → Rose (W.faults sink.old) (W.faults sink.new) }

@@ -2,10 +2,11 @@
 ghost use Rattle.std.specs.Prelude.{◌≡◌, ◌≢◌, ◌↔◌, ◌*◌, ◌%◌, ◌^◌, ◌<◌, ◌≤◌, false, [], IfOk, IsErr};
 
 use crate::Flash;
+use crate::buffered_file::BufferedFile;
 use ssu_io::Failed;
 use std::fs::{OpenFile, OpenOptions};
 use std::io;
-use std::io::{ErrorKind, Read, Seek, SeekFrom, Write};
+use std::io::{ErrorKind, Seek, SeekFrom};
 use std::marker::PhantomData;
 use std::rt::Files;
 
@@ -18,11 +19,12 @@ const BLANK: [u8; 4096] = [255; 4096];
 /// How many blocks stand for a file that is there and cannot be opened.
 const BROKEN_BLOCKS: u32 = 4;
 
-/// A file as a flash with blocks of 4,096 bytes. Each erase and program waits until the file is synced.
+/// A file as a flash with blocks of 4,096 bytes. Each erase and program waits until the file is synced. The file is read in
+/// pieces of 1,024 bytes, of which the last is kept until the next erase or program: nothing else is to write it meanwhile.
 /// It tells neither what it holds nor its moments. Each error of the file is a fault.
 #[derive(Drop)]
 pub struct FileFlash<'a, R: Files> {
-    file: Option<R::File>,
+    file: Option<BufferedFile<R::File>>,
     writes: bool,
     blocks: u32,
     faults: u64,
@@ -42,8 +44,8 @@ impl<'a, R: Files> FileFlash<'a, R> {
         FileFlash::opened(rt, path, true)
     }
 
-    /// Opens the file for reading alone, at once, with the same blocks as `new`. Each erase and program fails,
-    /// is counted as a fault and does not touch the file.
+    /// Opens the file for reading alone, at once, with the same blocks as `new`. The flash is halted from the start: each
+    /// erase and program fails, is counted as a fault and does not touch the file.
     pub fn read_only(rt: &'a R, path: String) -> FileFlash<'a, R>
         ensures faults { result.faults ≡ 0 }
         ensures reads_alone { result.writes ≡ false }
@@ -56,13 +58,13 @@ impl<'a, R: Files> FileFlash<'a, R> {
         ensures writes { result.writes ≡ writes }
     {
         match open(rt, &path, writes) {
-            Ok((file, blocks)) => FileFlash::of(Some(file), blocks, writes),
+            Ok((file, blocks)) => FileFlash::of(Some(BufferedFile::new(file)), blocks, writes),
             Err(error) if error.kind() == ErrorKind::NotFound => FileFlash::of(None, 0, writes),
             Err(_) => FileFlash::of(None, BROKEN_BLOCKS, writes),
         }
     }
 
-    fn of(file: Option<R::File>, blocks: u32, writes: bool) -> FileFlash<'a, R>
+    fn of(file: Option<BufferedFile<R::File>>, blocks: u32, writes: bool) -> FileFlash<'a, R>
         requires { blocks * 4096 < 2 ^ 32 }
         ensures faults { result.faults ≡ 0 }
         ensures writes { result.writes ≡ writes }
@@ -83,10 +85,10 @@ impl<'a, R: Files> FileFlash<'a, R> {
         ensures blocks { self.new.blocks ≡ self.old.blocks }
         ensures cause { HasCause self.old.faults self.new.faults result }
     {
-        let outcome = if self.writes {
-            write_at(&mut self.file, at, bytes)
-        } else {
-            Err(io::Error::from(ErrorKind::PermissionDenied))
+        let outcome = match &mut self.file {
+            Some(file) if self.writes => file.write(at, bytes),
+            Some(_) => Err(io::Error::from(ErrorKind::PermissionDenied)),
+            None => Err(io::Error::from(ErrorKind::NotFound)),
         };
         self.count(outcome)
     }
@@ -123,7 +125,8 @@ impl<R: Files> Flash for FileFlash<'_, R> {
 
     ghost left_since = { λ _ _ _. ⊥ };
 
-    ghost halted = { λ _. ⊥ };
+    // One that was opened for reading alone: each erase and program fails.
+    ghost halted = { λ flash. flash.writes ≡ false };
 
     ghost faults = { λ flash. flash.faults };
 
@@ -142,7 +145,10 @@ impl<R: Files> Flash for FileFlash<'_, R> {
     }
 
     fn read(&mut self, at: u32, buf: &mut [u8]) -> Result<(), Failed> {
-        let outcome = read_at(&mut self.file, at, buf);
+        let outcome = match &mut self.file {
+            Some(file) => file.read(at, buf),
+            None => Err(io::Error::from(ErrorKind::NotFound)),
+        };
         self.count(outcome)
     }
 
@@ -179,30 +185,5 @@ fn whole_blocks(len: u64) -> u32
         (len / u64::from(BLOCK)) as u32
     } else {
         0
-    }
-}
-
-fn read_at<F: Read + Seek>(file: &mut Option<F>, at: u32, buf: &mut [u8]) -> io::Result<()> {
-    match file {
-        None => Err(io::Error::from(ErrorKind::NotFound)),
-        Some(file) => {
-            file.seek(SeekFrom::Start(u64::from(at)))?;
-            file.read_exact(buf)
-        }
-    }
-}
-
-fn write_at<F: Write + Seek + OpenFile>(
-    file: &mut Option<F>,
-    at: u32,
-    bytes: &[u8],
-) -> io::Result<()> {
-    match file {
-        None => Err(io::Error::from(ErrorKind::NotFound)),
-        Some(file) => {
-            file.seek(SeekFrom::Start(u64::from(at)))?;
-            file.write_all(bytes)?;
-            file.sync_all()
-        }
     }
 }

@@ -49,6 +49,8 @@ impl Stage for BankStage {
 
     ghost in_bank = { stands_in_bank };
 
+    ghost in_bank_begun = { λ is stage bank ready. ready.begun };
+
     fn make(alloc: Global, bank: &Bank) -> Result<Self, NoMemory> {
         let most = bank.bank_len();
         Ok(BankStage {

@@ -48,6 +48,8 @@ impl Stage for RamStage {
 
     ghost in_bank = { not_in_bank };
 
+    ghost in_bank_begun = { not_in_bank };
+
     fn make(alloc: Global, bank: &Bank) -> Result<Self, NoMemory> {
         let most = bank.bank_len();
         Ok(RamStage {

@@ -200,4 +200,7 @@ pub trait Stage: Sized + Drop {
     ghost in_bank: { IN_BANK ≡ true → (stage : Self) (bank : Bank) (held : List ℕ) (number : ℕ) (p : Place)
         → place_of (plan_of stage) number ≡ Some p
         → bytes_at stage bank held number ≡ part held (spare_bank bank + p.at) p.len };
+
+    /// And the bank was begun for the group, so that what boot took before the current image is there no longer.
+    ghost in_bank_begun: { IN_BANK ≡ true → (stage : Self) (bank : Bank) → ready stage bank → is_begun bank ≡ true };
 }

@@ -112,13 +112,16 @@ fn a_file_is_a_flash_of_its_whole_blocks(rt: HostRuntime) -> Result<(), Fail> {
     assert_eq!(rt; buf.as_slice(), [0, 0, 255, 255, 255, 255].as_slice());
     flash.read(4098, &mut buf)?;
     assert_eq!(rt; buf.as_slice(), [255, 255, 1, 2, 3, 255].as_slice());
+    flash.program(4103, &[4])?;
+    flash.read(4098, &mut buf)?;
+    assert_eq!(rt; buf.as_slice(), [255, 255, 1, 2, 3, 4].as_slice());
     let held = fs::read(&rt, path.as_str())?;
     assert_eq!(rt; held.len(), 8192);
 
     let mut read_only = FileFlash::read_only(&rt, path.clone()?);
     assert_eq!(rt; read_only.blocks(), 2);
     read_only.read(4098, &mut buf)?;
-    assert_eq!(rt; buf.as_slice(), [255, 255, 1, 2, 3, 255].as_slice());
+    assert_eq!(rt; buf.as_slice(), [255, 255, 1, 2, 3, 4].as_slice());
     assert!(rt; read_only.erase(0).is_err());
     assert!(rt; read_only.program(4096, &[0]).is_err());
     assert_eq!(rt;

@@ -8,9 +8,8 @@ use Rattle.ts_section.specs.TimedSection.{TimedSection}
 use Rattle.head_carousel.specs.Blocks.{all_blocks}
 use Rattle.head_carousel.specs.Control.{dii_section, dsi_section}
 use Rattle.head_carousel.specs.GroupFiles.{GroupFiles}
-use Rattle.head_carousel.specs.Pids.{pid_of_notices, pids_of}
+use Rattle.head_carousel.specs.Signals.{pid_of_notices, pids_of, bats, networks, notices, notices_on, pmt_section, program_of, programs, time_of, timed}
 use Rattle.head_carousel.specs.Sections.{block_period, control_messages, plan_groups, section_count, sections_of, signalling}
-use Rattle.head_carousel.specs.Signals.{bats, networks, notices, notices_on, pmt_section, program_of, programs, time_of, timed}
 use Rattle.si_table.specs.Pids.{pat_pid, nit_pid, bat_pid, time_pid}
 use Rattle.si_table.specs.Written.{pat_bytes, tdt_bytes}
 

@@ -2,7 +2,6 @@ pub mod Blocks
 pub mod Control
 pub mod GroupFiles
 pub mod Notice
-pub mod Pids
 pub mod Refusal
 pub mod Sections
 pub mod Signals

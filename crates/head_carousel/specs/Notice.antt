@@ -3,7 +3,7 @@ use Rattle.std.specs.Prelude.{ℕ, ◌+◌, ◌*◌, Bool, true, List, [], ◌++
 use Rattle.std.specs.List.{flat_map}
 use Rattle.head_plan.specs.Plans.{GroupData, PlanData, ScheduleData}
 use Rattle.section_form.specs.Long.{LongFields}
-use Rattle.section_form.specs.Written.{long_bytes}
+use Rattle.section_form.specs.Written.{long_bytes, only_section}
 use Rattle.ssu_compat.specs.Written.{spelling}
 use Rattle.ssu_time.specs.UtcTime.{utc_bytes}
 use Rattle.ssu_unt.specs.Announced.{location_bytes, scheduling_bytes, update_bytes}
@@ -42,14 +42,7 @@ notice_body oui schedule manual gs = head_bytes oui [] ++ flat_map (platform_byt
 
 -- action_type 1; version 0, section 0 of 0
 abbrev pub notice_head : ℕ → Option ScheduleData → Bool → List GroupData → LongFields
-notice_head oui schedule manual gs = record {
-  table = 0x4B;
-  extension = 1 * 256 + oui_hash oui;
-  version = 0;
-  number = 0;
-  last = 0;
-  body = notice_body oui schedule manual gs;
-}
+notice_head oui schedule manual gs = only_section 0x4B (1 * 256 + oui_hash oui) 0 (notice_body oui schedule manual gs)
 
 abbrev pub notice_section : PlanData → List ℕ
 notice_section p = long_bytes true (notice_head p.oui p.schedule p.manual p.group)

@@ -72,3 +72,11 @@ notices_on p (Some pid) = timed pid p.signal_period (notice_section p) ∷ []
 
 unfoldable pub notices : PlanData → List TimedSection
 notices p = notices_on p p.notice_pid
+
+abbrev pub pid_of_notices : Option ℕ → List ℕ
+pid_of_notices None = []
+pid_of_notices (Some pid) = pid ∷ []
+
+-- the PIDs of a plan's sections: at most seven
+abbrev pub pids_of : PlanData → List ℕ
+pids_of p = nit_pid ∷ bat_pid ∷ pat_pid ∷ time_pid ∷ p.pmt_pid ∷ p.data_pid ∷ pid_of_notices p.notice_pid

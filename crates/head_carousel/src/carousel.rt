@@ -2,7 +2,7 @@
 ghost use Rattle.std.specs.Prelude.{◌≡◌, ◌≤◌, Contains, IfErr, IfOk, OnOk, length, map};
 ghost use Rattle.std.specs.List.{All};
 ghost use Rattle.head_plan.specs.Plans.{mentions};
-ghost use Rattle.head_carousel.specs.Pids.{pids_of};
+ghost use Rattle.head_carousel.specs.Signals.{pids_of};
 ghost use Rattle.head_carousel.specs.Refusal.{CanBeMade, IsBuildable, IsCause, IsFaultOf};
 ghost use Rattle.head_carousel.specs.Sections.{all_sections, section_count, sections_of};
 ghost use Rattle.head_carousel.specs.WellMade.{IsHeard, IsReady};

@@ -3,7 +3,7 @@ ghost use Rattle.std.specs.Prelude.{◌≡◌, ◌≤◌, ◌<◌, ◌^◌, ◌+
 ghost use Rattle.std.specs.Prelude.{true};
 ghost use Rattle.std.specs.List.{All};
 ghost use Rattle.std.specs.Option.{ForSome};
-ghost use Rattle.head_plan.specs.Schedules.{schedule_data};
+ghost use Rattle.head_plan.specs.Plans.{schedule_data};
 ghost use Rattle.section_form.specs.Written.{long_bytes};
 ghost use Rattle.si_desc.specs.Descriptors.{IsRow};
 ghost use Rattle.ssu_compat.specs.Compat.{EntryFields, compat as compat_format};

@@ -8,8 +8,7 @@ use Rattle.ts_section.specs.TimedSection.{TimedSection}
 use Rattle.ts_packet.specs.Packet.{packet_bytes, header, adaptation_field, pid_of, continuity_counter}
 use Rattle.ts_packet.proofs.Written.{length-adaptation_field}
 use Rattle.ts_section.specs.Cut.{filled, payloads, payload_count, packets_with, with_pointer, cut_packets}
-use Rattle.head_mux.specs.Sent.{section_of_turn, counter_before, packets_of_turn, sent}
-use Rattle.head_mux.specs.Counters.{counters_of, GoOn}
+use Rattle.head_mux.specs.Sent.{section_of_turn, counter_before, packets_of_turn, sent, counters_of, GoOn}
 use Rattle.head_mux.proofs.Order.{length_payloads, counter_below}
 
 -- so many counters that go on

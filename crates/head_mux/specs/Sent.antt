@@ -1,9 +1,11 @@
 -- In which order the sections of a list are sent, and as which packets: one section a turn, those of a PID with counters
 -- that go on (ISO/IEC 13818-1, 2.4.3.3).
-use Rattle.std.specs.Prelude.{zero, suc, ◌≢◌, ℕ, ◌+◌, ◌≤◌, Bool, if◌then◌else◌, ◌==◌, nat_le, List, [], ◌∷◌, ◌++◌, max, length, slice_index, slice_index_or, slice_set}
-use Rattle.std.specs.List.{list_all, position_or_len, range_with_len}
+use Rattle.std.specs.Prelude.{zero, suc, ◌≢◌, ℕ, ◌+◌, ◌≤◌, Bool, if◌then◌else◌, ◌==◌, nat_le, List, [], ◌∷◌, ◌++◌, max}
+use Rattle.std.specs.Prelude.{length, slice_index, slice_index_or, slice_set, ◌≡◌, ◌%◌, ◌<◌, map}
+use Rattle.std.specs.List.{list_all, position_or_len, range_with_len, filter}
 use Rattle.ts_section.specs.TimedSection.{TimedSection}
 use Rattle.ts_section.specs.Cut.{cut_packets, next_counter}
+use Rattle.ts_packet.specs.Packet.{pid_of, continuity_counter}
 
 -- What is asked of a section: the length of a section, a table_id that no stuffing has, and a period of at least a turn.
 pub record IsSendable (section : TimedSection) : Type 0 where
@@ -58,3 +60,12 @@ sent list (suc t) = sent list t ++ packets_of_turn list t
 abbrev pub greatest_period : List TimedSection → ℕ
 greatest_period [] = 0
 greatest_period (section ∷ list) = max section.period (greatest_period list)
+
+-- The counters of the packets of a PID, in order: continuity_counter, which goes on modulo 16 from a packet of the PID to
+-- the next one (ISO/IEC 13818-1, 2.4.3.3).
+abbrev pub counters_of : ℕ → List (List ℕ) → List ℕ
+counters_of pid packets = map continuity_counter (filter (λ packet. pid_of packet == pid) packets)
+
+-- They go on from the first one without a gap.
+abbrev pub GoOn : ℕ → List ℕ → Type 0
+GoOn first counters = (k : ℕ) → k < length counters → slice_index counters k ≡ (first + k) % 16

@@ -6,8 +6,7 @@ ghost use Rattle.std.specs.Result.{IsErrOf};
 ghost use Rattle.ssu_io.specs.Bytes.{Gains, GainsPrefix};
 ghost use Rattle.ssu_io.specs.Faults.{HasCause, Rose};
 ghost use Rattle.ssu_io.specs.SinkBuffer.{MovesOn};
-ghost use Rattle.head_mux.specs.Counters.{counters_of, GoOn};
-ghost use Rattle.head_mux.specs.Sent.{IsSendable, section_of_turn, sent, greatest_period};
+ghost use Rattle.head_mux.specs.Sent.{counters_of, GoOn, IsSendable, section_of_turn, sent, greatest_period};
 ghost use Rattle.head_mux.specs.declared.fault.MuxFault.TheVariants.{WriteFault, Memory};
 
 use crate::MuxFault;

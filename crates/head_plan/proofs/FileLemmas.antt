@@ -10,7 +10,7 @@ use Rattle.toml.specs.declared.value.Value.{Value}
 use Rattle.toml.proofs.Views.{items_view-drop}
 use Rattle.toml_fields.specs.Place.{Place, array, item_count}
 use Rattle.ssu_io.specs.FileName.{is_file_name, file_name_of}
-use Rattle.head_plan.specs.Files.{AreFiles}
+use Rattle.head_plan.specs.Plans.{AreFiles}
 use Rattle.head_plan.specs.PlanText.{file_of, files_of, is_counted, modules}
 
 -- the files so far, and those of the rest

@@ -1,4 +1,2 @@
 pub mod Plans
 pub mod PlanText
-pub mod Files
-pub mod Schedules

@@ -4,11 +4,10 @@ use Rattle.std.specs.Prelude.{Some, None, is_some, Ok, Err, nat_le, if◌then◌
 use Rattle.std.specs.Prelude.{option_and_then}
 use Rattle.std.specs.Result.{result_ok}
 use Rattle.toml.specs.Data.{Data, Items, no_items, item, Members, as_str}
-use Rattle.toml_fields.specs.Reading.{Reading, ◌>>=◌, or_bad, checked, item_prefix}
-use Rattle.toml_fields.specs.Document.{document_of}
+use Rattle.toml_fields.specs.Reading.{Reading, ◌>>=◌, or_bad, checked, item_prefix, document_of}
 use Rattle.toml_fields.specs.Place.{Place, number, optional_number, text, optional_flag, optional_table, array, tables, item_count}
 use Rattle.ssu_io.specs.FileName.{file_name_of}
-use Rattle.ssu_time.specs.OfText.{civil_of}
+use Rattle.ssu_time.specs.CivilText.{civil_of}
 use Rattle.ssu_time.specs.UtcField.{TimeFields}
 use Rattle.head_plan.specs.Plans.{ScheduleData, GroupData, PlanData}
 use Rattle.head_plan.specs.declared.fault.PlanFault.{PlanFault}

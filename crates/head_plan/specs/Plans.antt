@@ -1,7 +1,11 @@
 -- What a plan says, with its groups and their files as lists, and the range of each field.
-use Rattle.std.specs.Prelude.{◌≡◌, ◌≢◌, ℕ, ◌^◌, ◌<◌, ◌≤◌, Bool, true, List, [], ◌∷◌, ◌++◌, Option, IsSome}
+use Rattle.std.specs.Prelude.{◌≡◌, ◌≢◌, ℕ, ◌^◌, ◌<◌, ◌≤◌, Bool, true, List, [], ◌∷◌, ◌++◌, Option, IsSome, map, length}
 use Rattle.std.specs.Option.{ForSome}
-use Rattle.ssu_time.specs.UtcField.{TimeFields}
+use Rattle.ssu_time.specs.UtcField.{TimeFields, time_view}
+use Rattle.std.specs.List.{list_all}
+use Rattle.arrayvec.specs.ArrayString.{ArrayString}
+use Rattle.ssu_io.specs.FileName.{is_file_name}
+use Rattle.head_plan.specs.declared.schedule.Schedule.{Schedule}
 
 -- when the boxes may take the update
 pub record ScheduleData : Type 0 where
@@ -36,18 +40,6 @@ pub record PlanData : Type 0 where
   pub manual : Bool
   pub schedule : Option ScheduleData
   pub group : List GroupData
-
-abbrev pub group_data : (model version software_model software_version block_size module_version : ℕ) → Option ℕ → List (List ℕ) → GroupData
-group_data m v sm sv b mv s files = record {
-  model = m;
-  version = v;
-  software_model = sm;
-  software_version = sv;
-  block_size = b;
-  module_version = mv;
-  subgroup = s;
-  modules = files;
-}
 
 -- the range of each field of a group
 pub record IsGroup (block_size : ℕ) (subgroup : Option ℕ) : Type 0 where
@@ -88,3 +80,22 @@ pub record IsPlan (service pmt blocks : ℕ) (notice : Option ℕ) (period turns
 abbrev pub mentions : List GroupData → List (List ℕ)
 mentions [] = []
 mentions (g ∷ rest) = g.modules ++ mentions rest
+
+-- the bytes of each name
+abbrev pub texts : List ArrayString → List (List ℕ)
+texts = map (λ name. name.bytes)
+
+-- 1 to 256 names of files
+pub record AreFiles (names : List (List ℕ)) : Type 0 where
+  pub some : 1 ≤ length names
+  pub few : length names ≤ 256
+  pub files : list_all is_file_name names ≡ true
+
+-- a schedule as a plan shows it
+abbrev pub schedule_data : Schedule → ScheduleData
+schedule_data s = record {
+  start = time_view s.start;
+  end = time_view s.end;
+  period_hours = s.period_hours;
+  duration_hours = s.duration_hours;
+}

@@ -1,6 +1,6 @@
 //! The files of a group.
 ghost use Rattle.std.specs.Prelude.{◌≡◌, ◌<◌, ◌≤◌, Some, length, slice_get};
-ghost use Rattle.head_plan.specs.Files.{AreFiles, texts};
+ghost use Rattle.head_plan.specs.Plans.{AreFiles, texts};
 
 use ssu_io::FileName;
 use std::marker::Model;
@@ -13,7 +13,7 @@ pub struct Files {
 
 impl Model for Files {
     ghost use Rattle.std.specs.Prelude.{ℕ, List};
-    ghost use Rattle.head_plan.specs.Files.{AreFiles, texts};
+    ghost use Rattle.head_plan.specs.Plans.{AreFiles, texts};
 
     ghost Value = { List (List ℕ) };
 

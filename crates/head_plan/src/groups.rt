@@ -24,12 +24,20 @@ pub struct PlanGroup {
 }
 
 impl Model for PlanGroup {
-    ghost use Rattle.head_plan.specs.Plans.{GroupData, IsGroup, group_data};
+    ghost use Rattle.head_plan.specs.Plans.{GroupData, IsGroup};
 
     ghost Value = { GroupData };
 
-    ghost view = { λ g. group_data g.model g.version g.software_model g.software_version g.block_size
-        g.module_version g.subgroup g.modules };
+    ghost view = { λ g. record {
+      model = g.model;
+      version = g.version;
+      software_model = g.software_model;
+      software_version = g.software_version;
+      block_size = g.block_size;
+      module_version = g.module_version;
+      subgroup = g.subgroup;
+      modules = g.modules;
+    } };
 
     ghost invariant = { λ g. IsGroup g.block_size g.subgroup };
 }

@@ -39,8 +39,7 @@ pub struct Plan {
 impl Model for Plan {
     ghost use Rattle.std.specs.Prelude.{option_map};
     ghost use Rattle.ssu_time.specs.UtcField.{time_view};
-    ghost use Rattle.head_plan.specs.Plans.{PlanData, IsPlan};
-    ghost use Rattle.head_plan.specs.Schedules.{schedule_data};
+    ghost use Rattle.head_plan.specs.Plans.{PlanData, IsPlan, schedule_data};
 
     ghost Value = { PlanData };
 

@@ -134,7 +134,8 @@ fn the_first_file_of_too_many_blocks_is_named(rt: HostRuntime) -> Result<(), Fai
 fn sixteen_files_of_17_000_000_bytes_are_too_many_sections(rt: HostRuntime) -> Result<(), Fail> {
     let alloc = rt.alloc();
     let sixteen =
-        "modules = [\"a.bin\", \"a.bin\", \"a.bin\", \"a.bin\", \"a.bin\", \"a.bin\", \"a.bin\", \"a.bin\", \"a.bin\", \"a.bin\", \"a.bin\", \"a.bin\", \"a.bin\", \"a.bin\", \"a.bin\", \"a.bin\"]";
+        "modules = [\"a.bin\", \"a.bin\", \"a.bin\", \"a.bin\", \"a.bin\", \"a.bin\", \"a.bin\", \"a.bin\", \
+         \"a.bin\", \"a.bin\", \"a.bin\", \"a.bin\", \"a.bin\", \"a.bin\", \"a.bin\", \"a.bin\"]";
     let plan = plan_of(alloc, "", sixteen)?;
     let file = vec![in alloc; 0; 17_000_000]?;
     let mut images = Vec::new(alloc);

@@ -1,10 +1,14 @@
 //! Tests of `replay`, of the top call, and of the names that callers use.
 #![tactic(auto)]
 
+#[cfg(test)]
+mod night_tests;
 pub mod public_names;
 #[cfg(test)]
 mod ssu_tool_tests;
 #[cfg(test)]
 mod stored_blocks_tests;
+#[cfg(test)]
+mod sweep_tests;
 #[cfg(test)]
 mod tool_replay_tests;

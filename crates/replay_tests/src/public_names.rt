@@ -124,6 +124,7 @@ pub use ssu_tool::Status;
 pub use ssu_tool::broadcast_then_boot;
 pub use ssu_tool::made_file;
 pub use ssu_tool::run;
+pub use ssu_tool::run_spared;
 pub use ssu_unt::Pair;
 pub use ssu_unt::Pairs;
 pub use ssu_unt::Platform;

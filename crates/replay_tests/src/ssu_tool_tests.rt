@@ -301,14 +301,14 @@ fn dii_crc(packets: &[u8; FIRST_LEN]) -> [u8; 4] {
     crc(&packets[DII_AT..SECTION_CRC_AT]).to_be_bytes()
 }
 
-/// The same packets, where the DII states zeros as the CRC of its module.
-fn with_zeros(packets: &[u8]) -> Result<[u8; FIRST_LEN], Fail> {
+/// The same packets, where the DII states zeros in place of this CRC of its module.
+fn with_zeros(packets: &[u8], module_crc: [u8; 4]) -> Result<[u8; FIRST_LEN], Fail> {
     let mut changed = [0; FIRST_LEN];
     if packets.len() != FIRST_LEN {
         return Err("not seven packets".into());
     }
     changed.copy_from_slice(packets);
-    if four_at(&changed, MODULE_CRC_AT) != [0x03, 0x76, 0xE6, 0xE7] {
+    if four_at(&changed, MODULE_CRC_AT) != module_crc {
         return Err("not the CRC of the module".into());
     }
     put_four(&mut changed, MODULE_CRC_AT, [0; 4]);
@@ -334,7 +334,7 @@ fn a_built_stream_that_was_changed_is_not_loaded(rt: HostRuntime) -> Result<(), 
     let rows: [(&[u8], u8, &str); 3] = [
         (packets, 0, "loaded group 2147483650 bytes 9\n"),
         (
-            &with_zeros(packets)?,
+            &with_zeros(packets, [0x03, 0x76, 0xE6, 0xE7])?,
             8,
             "bad module 1 want 00000000 found 0376e6e7\n",
         ),
@@ -347,6 +347,50 @@ fn a_built_stream_that_was_changed_is_not_loaded(rt: HostRuntime) -> Result<(), 
         assert_eq!(rt; loaded.status.code(), code);
         assert_eq!(rt; loaded.put.as_slice(), line.as_bytes());
         assert_eq!(rt; loaded.made.is_empty(), code != 0);
+    }
+    Ok(())
+}
+
+/// The packets of the plan, where a.bin has this text.
+fn built_of(alloc: Global, text: &str) -> Result<Vec<u8>, Fail> {
+    let mut shelf = MemShelf::new(alloc, Vec::new(alloc));
+    shelf.add("plan.toml", PLAN.as_bytes().to_vec(alloc)?)?;
+    shelf.add("a.bin", text.as_bytes().to_vec(alloc)?)?;
+    let mut flash = SureFlash::blank(alloc, 4, 256)?;
+    let none = Vec::new(alloc);
+    let built = outcome_on(alloc, &["folder", "build"], &mut shelf, none, &mut flash)?;
+    Ok(built.made)
+}
+
+#[test]
+fn a_built_stream_is_audited(rt: HostRuntime) -> Result<(), Fail> {
+    let alloc = rt.alloc();
+    let one = built_of(alloc, "123456789")?;
+    let other = built_of(alloc, "123456780")?;
+    let (Some(first), Some(without_block), Some(second)) = (
+        one.get(..FIRST_LEN),
+        one.get(..6 * 188),
+        other.get(..FIRST_LEN),
+    ) else {
+        return Err("not seven packets".into());
+    };
+    let zeros = with_zeros(first, [0x03, 0x76, 0xE6, 0xE7])?;
+    let other_zeros = with_zeros(second, [0x21, 0xBF, 0x16, 0xE8])?;
+    // What is sent, and then behind it, the exit code and the line.
+    let rows: [(&[u8], &[u8], u8, &str); 5] = [
+        (one.as_slice(), &[], 0, "audit ok groups 1 blocks 1\n"),
+        (without_block, &[], 21, "missing 2147483650 place 0\n"),
+        (&[], &[], 21, "no dsi\n"),
+        (first, second, 21, "differ dii 1 4\n"),
+        (&zeros, &other_zeros, 21, "differ block 2 5\n"),
+    ];
+    for (air, behind, code, line) in rows {
+        let mut packets = air.to_vec(alloc)?;
+        packets.extend_from_slice(behind)?;
+        let audited = outcome_of(alloc, &["folder", "audit", "258"], packets, &[], &[])?;
+        assert_eq!(rt; audited.status.code(), code);
+        assert_eq!(rt; audited.put.as_slice(), line.as_bytes());
+        assert!(rt; audited.made.is_empty());
     }
     Ok(())
 }
@@ -532,5 +576,41 @@ fn the_first_sixteen_of_seventeen_services_are_kept(rt: HostRuntime) -> Result<(
     let found = outcome_on(alloc, &["folder", "find"], &mut shelf, air, &mut flash)?;
     assert_eq!(rt; found.status, Status::Done);
     assert!(rt; found.put.starts_with("1 services 16\n2 none\n".as_bytes()));
+    Ok(())
+}
+
+#[test]
+fn a_sample_prints_what_came_of_it(rt: HostRuntime) -> Result<(), Fail> {
+    let alloc = rt.alloc();
+    let rows = [
+        (
+            "0",
+            "sample 0 modules 1 bytes 50000 sections 55
+installed group 2147483650 software 1.2 bytes 50000
+boot bank 1 number 2 software 1.2 bytes 50000
+",
+        ),
+        (
+            "5",
+            "sample 5 modules 3 bytes 244000 sections 246
+installed group 2147483650 software 1.2 bytes 244000
+boot bank 1 number 2 software 1.2 bytes 244000
+",
+        ),
+        (
+            "999999",
+            "sample 999999 modules 1 bytes 93000 sections 97
+installed group 2147483650 software 1.2 bytes 93000
+boot bank 1 number 2 software 1.2 bytes 93000
+",
+        ),
+    ];
+    for (number, lines) in rows {
+        let words = ["folder", "sample", number];
+        let outcome = outcome_of(alloc, &words, Vec::new(alloc), &[], &[])?;
+        assert_eq!(rt; outcome.status, Status::Done);
+        assert_eq!(rt; outcome.put.as_slice(), lines.as_bytes());
+        assert!(rt; outcome.made.is_empty());
+    }
     Ok(())
 }

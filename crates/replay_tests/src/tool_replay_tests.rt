@@ -1,7 +1,7 @@
 //! Streams that `build` made, replayed to a flash in memory.
 
 use flash_bank::{boot, format};
-use flash_dev::{Flash, MemFlash, SureFlash, Tear};
+use flash_dev::{Flash, MemFlash, Tear};
 use flash_stage::{BankStage, RamStage, Stage};
 use ssu_answer::{Chosen, Level};
 use ssu_compat::SwId;
@@ -258,96 +258,5 @@ fn a_flash_is_refused_unchanged(rt: HostRuntime) -> Result<(), Fail> {
     let mut empty = MemShelf::new(alloc, Vec::new(alloc));
     let outcome = replayed::<BankStage, MemFlash>(alloc, &mut empty, &air, (&[], &[]), &mut worn)?;
     assert_eq!(rt; outcome.status.code(), 9);
-    Ok(())
-}
-
-/// A night's update of 41,943 bytes in three files, which boxes take from one to three o'clock in March 2024. It is sent at
-/// this time.
-fn night_plan(alloc: Global, time: &str) -> Result<String, Fail> {
-    Ok(format!(in alloc;
-        "ts = 1
-network = 2
-bouquet = 9
-service = 3
-oui = 4660
-time = \"{time}\"
-pmt_pid = 256
-notice_pid = 257
-data_pid = 258
-turns = 60
-[schedule]
-start = \"2024-03-01T01:00:00\"
-end = \"2024-04-01T01:00:00\"
-period_hours = 24
-duration_hours = 2
-[[group]]
-model = 7
-version = 1
-software_model = 1
-software_version = 8
-modules = [\"a.bin\", \"b.bin\", \"c.bin\"]
-"
-    )?)
-}
-
-#[test]
-fn a_nights_update_is_installed_in_its_window(rt: HostRuntime) -> Result<(), Fail> {
-    let alloc = rt.alloc();
-    let files: [(&str, u8, usize); 3] = [
-        ("a.bin", 1, 20_000),
-        ("b.bin", 2, 20_000),
-        ("c.bin", 3, 1943),
-    ];
-    let mut joined = Vec::new(alloc);
-    for (_, byte, len) in files {
-        joined.extend_from_slice(&vec![in alloc; byte; len]?)?;
-    }
-    // when it is sent, the version that runs, the exit code, the line, and whether boot takes the update then
-    let rows: [(&str, u16, u8, &str, bool); 3] = [
-        (
-            "2024-03-05T02:00:00",
-            7,
-            0,
-            "installed group 2147483650 software 1.8 bytes 41943\n",
-            true,
-        ),
-        (
-            "2024-03-05T12:00:00",
-            7,
-            6,
-            "nothing level 5 window\n",
-            false,
-        ),
-        (
-            "2024-03-05T02:00:00",
-            8,
-            6,
-            "nothing level 6 group\n",
-            false,
-        ),
-    ];
-    for (time, version, code, line, updated) in rows {
-        let mut shelf = MemShelf::new(alloc, Vec::new(alloc));
-        shelf.add("box.toml", BOX.as_bytes().to_vec(alloc)?)?;
-        shelf.add(
-            "plan.toml",
-            night_plan(alloc, time)?.as_bytes().to_vec(alloc)?,
-        )?;
-        for (name, byte, len) in files {
-            shelf.add(name, vec![in alloc; byte; len]?)?;
-        }
-        let air = packets_of(alloc, &mut shelf)?;
-        let mut flash = SureFlash::blank(alloc, 24, 4096)?;
-        let running = SwId { model: 1, version };
-        if format(&mut flash, OLD, running).is_err() {
-            return Err("it is not formatted".into());
-        }
-        let none = (&[] as &[u32], &[] as &[u32]);
-        let outcome = replayed::<BankStage, SureFlash>(alloc, &mut shelf, &air, none, &mut flash)?;
-        assert_eq!(rt; outcome.status.code(), code);
-        assert_eq!(rt; outcome.line.as_slice(), line.as_bytes());
-        let image = if updated { joined.as_slice() } else { OLD };
-        assert_eq!(rt; booted(alloc, &mut flash)?.as_slice(), image);
-    }
     Ok(())
 }

@@ -4,8 +4,7 @@ use Rattle.std.specs.Prelude.{IsTrue, IsSome, if◌then◌else◌, unwrap_or}
 use Rattle.std.specs.Option.{option_or, option_and_then}
 use Rattle.std.proofs.Common.{◌≡◌, Bool, true, false, List, [], ◌∷◌, Option, Some, None, refl, ◌∙◌, ap}
 use Rattle.route_part.specs.Part.{since, steady}
-use Rattle.route_part.specs.Said.{last_said, first_said, fixed_said, held_said, under}
-use Rattle.route_part.specs.Laws.{IsSound, Fits, next_fixed, StepsBy}
+use Rattle.route_part.specs.Said.{last_said, first_said, fixed_said, held_said, under, IsSound, Fits, next_fixed, StepsBy}
 
 pub since-step : {X V : Type 0} (same : V → V → Bool) (value : List X → V) (item : X) (earlier : List X) →
     since same value (item ∷ earlier) ≡ (if same (value (item ∷ earlier)) (value earlier) then item ∷ since same value earlier else [])

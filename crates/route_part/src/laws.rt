@@ -3,8 +3,7 @@
 ghost use Rattle.std.specs.Prelude.{◌≡◌, Bool, List, [], ◌∷◌, Option, if◌then◌else◌, IsTrue};
 ghost use Rattle.std.specs.Option.{option_or};
 ghost use Rattle.route_part.specs.Part.{since, steady};
-ghost use Rattle.route_part.specs.Said.{last_said, first_said, fixed_said, held_said};
-ghost use Rattle.route_part.specs.Laws.{IsSound, Fits, next_fixed, StepsBy};
+ghost use Rattle.route_part.specs.Said.{last_said, first_said, fixed_said, held_said, IsSound, Fits, next_fixed, StepsBy};
 
 /// The part since a value changed: an item joins it where the value stayed; where the value changed at the item,
 /// nothing has come since.

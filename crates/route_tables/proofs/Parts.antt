@@ -3,7 +3,7 @@ use Rattle.std.proofs.Common.{◌≡◌, ℕ, Bool, true, false, List, [], ◌�
 use Rattle.std.specs.Prelude.{IsSome, ◌==◌, if◌then◌else◌, is_some, length}
 use Rattle.std.specs.List.{find}
 use Rattle.std.specs.Option.{option_and_then}
-use Rattle.route_part.specs.Laws.{Fits}
+use Rattle.route_part.specs.Said.{Fits}
 use Rattle.si_desc.specs.declared.linkages.ServiceRef.{ServiceRef}
 use Rattle.ssu_unt.specs.Table.{UntFields}
 use Rattle.route_tables.specs.Values.{Receiver}

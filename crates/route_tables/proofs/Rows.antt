@@ -7,7 +7,7 @@ use Rattle.si_desc.specs.Descriptors.{DescFields, whole_descriptors}
 use Rattle.si_desc.specs.Linkage.{linkage}
 use Rattle.si_desc.specs.SsuInfo.{InfoFields, update_infos}
 use Rattle.route_tables.specs.Said.{bodies, body_if, is_update_for, linked_service, linked_services, type_of, update_type_of}
-use Rattle.route_tables.specs.Parts.{first_type_of, linked_by, type_by}
+use Rattle.route_tables.specs.Levels.{first_type_of, linked_by, type_by}
 
 bodies_more : (tag : ℕ) (row behind : List ℕ) (d : DescFields) → whole_descriptors row ≡ d ∷ whole_descriptors behind
     → bodies tag row ≡ cons_option (body_if tag d) (bodies tag behind)

@@ -2,7 +2,7 @@
 use Rattle.std.proofs.Common.{◌≡◌, ℕ, Bool, true, false, ◌&&◌, [], ◌∷◌, Some, None, refl, ap, ◌∙◌, arith}
 use Rattle.std.specs.Prelude.{◌==◌}
 use Rattle.std.proofs.lemmas.Bool.{eqb-true}
-use Rattle.route_part.specs.Laws.{IsSound}
+use Rattle.route_part.specs.Said.{IsSound}
 use Rattle.route_tables.specs.Values.{same_option, same_list, same_number, same_service, same_services, same_carousel_found, same_carousel, same_program_found, same_program, same_stream, same_component_found, same_component}
 
 pub and_left : (a b : Bool) → (a && b) ≡ true → a ≡ true

@@ -4,9 +4,8 @@ use Rattle.ssu_compat.specs.declared.me.BoxId.{BoxId}
 use Rattle.si_desc.specs.declared.linkages.ServiceRef.{ServiceRef}
 use Rattle.ts_section.specs.Events.{Heard}
 use Rattle.route_tables.specs.Values.{Receiver, ProgramFound, ComponentFound, NoticeFound, CarouselFound, same_services, same_program, same_component}
-use Rattle.route_tables.specs.Levels.{level_1, level_2, level_3, entries_of, notice, time_now, level_5}
+use Rattle.route_tables.specs.Levels.{level_1, level_2, level_3, entries_of, notice, time_now, level_5, carousel_from}
 use Rattle.route_tables.specs.Next.{services_after, program_after, component_after, notice_after, time_after}
-use Rattle.route_tables.specs.Parts.{carousel_from}
 use Rattle.route_tables.proofs.Sixteen.{level_1-step}
 use Rattle.route_tables.proofs.Steps.{level_2-step, level_3-step, notice-step, time_now-step, level_5-is}
 

@@ -4,8 +4,7 @@ use Rattle.std.specs.Prelude.{◌==◌, is_some, unwrap_or}
 use Rattle.std.specs.List.{find}
 use Rattle.std.specs.Option.{option_and_then, option_map, option_or}
 use Rattle.route_part.specs.Part.{since}
-use Rattle.route_part.specs.Said.{fixed_said, last_said, under}
-use Rattle.route_part.specs.Laws.{StepsBy, next_fixed}
+use Rattle.route_part.specs.Said.{fixed_said, last_said, under, StepsBy, next_fixed}
 use Rattle.route_part.proofs.Steps.{by_part, fixed_said-none, fixed_said-step, last_said-none, last_said-step}
 use Rattle.ts_section.specs.Events.{Heard}
 use Rattle.si_desc.specs.declared.linkages.ServiceRef.{ServiceRef}
@@ -15,9 +14,10 @@ use Rattle.ssu_unt.specs.Targeting.{TargetFields, targeted}
 use Rattle.ssu_unt.specs.Views.{me_view}
 use Rattle.route_tables.specs.Values.{Receiver, ProgramFound, ComponentFound, NoticeFound, same_services, same_program, same_component}
 use Rattle.route_tables.specs.Said.{on, pid_in_pat, program_said, service_said, component_said, notice_if, notice_in, number_if_entries, entries_under, number_said, entries_said, time_said}
-use Rattle.route_tables.specs.Levels.{level_1, program_found, level_2, component_by, level_3, has_notice, notice_found, notice_by, notice, entries_of, level_4, time_now, carousel_by, level_5}
-use Rattle.route_tables.specs.Next.{pat_in, program_at, first_listed, next_program, program_after, decided, component_after, unt_in, next_notice, notice_after, time_after}
-use Rattle.route_tables.specs.Parts.{carousel_from}
+use Rattle.route_tables.specs.Levels.{level_1, program_found, level_2, component_by, level_3, has_notice, notice_found}
+use Rattle.route_tables.specs.Levels.{notice_by, notice, entries_of, level_4, time_now, level_5}
+use Rattle.route_tables.specs.Levels.{carousel_from}
+use Rattle.route_tables.specs.Next.{pat_in, first_listed, next_program, program_after, decided, component_after, unt_in, next_notice, notice_after, time_after}
 use Rattle.route_tables.proofs.Same.{services_sound, program_sound, component_sound}
 use Rattle.route_tables.proofs.Parts.{program_fits, notice_fits}
 
@@ -38,7 +38,7 @@ program_of o fixed = option_map program_found (option_and_then (λ s. under s (s
 
 listed_one : (p : PatFields) (s : ServiceRef) (later : List ServiceRef) (q : Option ℕ) → pid_in_pat s p ≡ q
     → program_of (Some p) (fixed_by (Some p) later) ≡ first_listed later p
-    → program_of (Some p) (if is_some q then Some s else fixed_by (Some p) later) ≡ option_or (option_map (program_at s) q) (first_listed later p)
+    → program_of (Some p) (if is_some q then Some s else fixed_by (Some p) later) ≡ option_or (option_map (λ pid. program_found (s, pid)) q) (first_listed later p)
 listed_one p s later None e h = h
 listed_one p s later (Some pid) e h = rw e refl
 
@@ -153,15 +153,15 @@ entries_next me (Some u) (Some x) = again_entries me u x (u.number == x.0) refl
 
 notice_next : (me : Receiver) (pid : ℕ) (item : Heard) (x : Option (ℕ × List TargetFields))
     → option_map notice_found (next_fixed (number_said me pid) (entries_said me pid) item x)
-    ≡ next_notice (me_view me.file.id) (option_and_then (notice_if me) (option_and_then (λ section. unt.of section) (on pid item))) (option_map notice_found x)
+    ≡ next_notice (me_view me.file.id) (option_and_then (notice_if me.file.id.oui) (option_and_then (λ section. unt.of section) (on pid item))) (option_map notice_found x)
 unfolding number_said entries_said notice_in
-notice_next me pid item None = entries_next me (option_and_then (notice_if me) (option_and_then (λ section. unt.of section) (on pid item))) None
-notice_next me pid item (Some x) = entries_next me (option_and_then (notice_if me) (option_and_then (λ section. unt.of section) (on pid item))) (Some x)
+notice_next me pid item None = entries_next me (option_and_then (notice_if me.file.id.oui) (option_and_then (λ section. unt.of section) (on pid item))) None
+notice_next me pid item (Some x) = entries_next me (option_and_then (notice_if me.file.id.oui) (option_and_then (λ section. unt.of section) (on pid item))) (Some x)
 
 notice_on : (me : Receiver) (c : ComponentFound) (item : Heard) (part : List Heard) (b : Bool)
     → (if b then option_map notice_found (fixed_said (number_said me c.pid) (entries_said me c.pid) (item ∷ part)) else None)
     ≡ next_notice (me_view me.file.id)
-    (if b then option_and_then (notice_if me) (option_and_then (λ section. unt.of section) (on c.pid item)) else None)
+    (if b then option_and_then (notice_if me.file.id.oui) (option_and_then (λ section. unt.of section) (on c.pid item)) else None)
     (if b then option_map notice_found (fixed_said (number_said me c.pid) (entries_said me c.pid) part) else None)
 notice_on me c item part true =
     ap (option_map notice_found) (fixed_said-step (number_said me c.pid) (entries_said me c.pid) (notice_fits me c.pid) item part)
@@ -197,12 +197,7 @@ pub time_now-step : (item : Heard) (earlier : List Heard) → time_now (item ∷
 unfolding time_now
 time_now-step item earlier = last_said-step time_said item earlier
 
-from_by : (me : Receiver) (now : Option ℕ) (component : Option ComponentFound) (entries : List TargetFields)
-    → carousel_from me.file.manual now component entries ≡ carousel_by me now component entries
-from_by me now None entries = refl
-from_by me now (Some c) entries = refl
-
 pub level_5-is : (me : Receiver) (heard : List Heard)
     → carousel_from me.file.manual (time_now heard) (level_3 me heard) (entries_of (notice me heard)) ≡ level_5 me heard
 unfolding level_5 level_4
-level_5-is me heard = from_by me (time_now heard) (level_3 me heard) (entries_of (notice me heard))
+level_5-is me heard = refl

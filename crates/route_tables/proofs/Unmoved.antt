@@ -8,11 +8,10 @@ use Rattle.si_table.specs.Pids.{pat_pid, nit_pid, bat_pid, time_pid}
 use Rattle.si_table.specs.Tables.{NetFields, pat, pmt, net}
 use Rattle.ssu_unt.specs.Table.{unt}
 use Rattle.route_tables.specs.Values.{Receiver, ProgramFound, ComponentFound}
-use Rattle.route_tables.specs.Said.{on, time_in, time_said}
+use Rattle.route_tables.specs.Said.{notice_if, on, time_in, time_said}
 use Rattle.route_tables.specs.Levels.{has_notice, level_1, level_2, level_3, notice, entries_of, level_4, time_now, level_5}
-use Rattle.route_tables.specs.Next.{first_loop, loop_in, services_after, pat_in, decided, notice_table, unt_in}
-use Rattle.route_tables.specs.Standing.{pid_of_program, pid_of_component}
-use Rattle.route_tables.specs.Unmoved.{IsSilent, IsElsewhere, IsUnmoved}
+use Rattle.route_tables.specs.Next.{first_loop, loop_in, services_after, pat_in, decided, unt_in}
+use Rattle.route_tables.specs.Standing.{IsSilent, IsElsewhere, IsUnmoved}
 use Rattle.route_tables.proofs.Itself.{services_itself, program_itself, component_itself}
 use Rattle.route_tables.proofs.Sixteen.{level_1-step}
 use Rattle.route_tables.proofs.Steps.{level_2-step, level_3-step, notice-step, time_now-step}
@@ -73,7 +72,7 @@ no_component oui (Some p) item e = rw (nothing_on pmt.of p.pid item e) refl
 no_notice : (oui : ℕ) (component : Option ComponentFound) (item : Heard) → unt.of item.section ≡ None → unt_in oui component item ≡ None
 no_notice oui None item e = refl
 no_notice oui (Some c) item e =
-    neither (has_notice c) (option_and_then (notice_table oui) (option_and_then (λ section. unt.of section) (on c.pid item))) (rw (nothing_on unt.of c.pid item e) refl)
+    neither (has_notice c) (option_and_then (notice_if oui) (option_and_then (λ section. unt.of section) (on c.pid item))) (rw (nothing_on unt.of c.pid item e) refl)
 
 pub silent : (me : Receiver) (item : Heard) (earlier : List Heard) → IsSilent item.section → IsUnmoved me item earlier
 unfolding time_said
@@ -97,14 +96,14 @@ no_loop : (pid : ℕ) (o : Option NetFields) → pid ≢ nit_pid → pid ≢ bat
 no_loop pid None a b = refl
 no_loop pid (Some n) a b = rw (differs pid nit_pid a, differs pid bat_pid b) refl
 
-other_program : (oui : ℕ) (program : Option ProgramFound) (item : Heard) → option_map pid_of_program program ≢ Some item.pid → decided oui program item ≡ None
+other_program : (oui : ℕ) (program : Option ProgramFound) (item : Heard) → option_map (λ p. p.pid) program ≢ Some item.pid → decided oui program item ≡ None
 other_program oui None item h = refl
 other_program oui (Some p) item h = rw (not_on p.pid item (λ e. h (cc))) refl
 
-other_component : (oui : ℕ) (component : Option ComponentFound) (item : Heard) → option_map pid_of_component component ≢ Some item.pid → unt_in oui component item ≡ None
+other_component : (oui : ℕ) (component : Option ComponentFound) (item : Heard) → option_map (λ c. c.pid) component ≢ Some item.pid → unt_in oui component item ≡ None
 other_component oui None item h = refl
 other_component oui (Some c) item h =
-    neither (has_notice c) (option_and_then (notice_table oui) (option_and_then (λ section. unt.of section) (on c.pid item))) (rw (not_on c.pid item (λ e. h (cc))) refl)
+    neither (has_notice c) (option_and_then (notice_if oui) (option_and_then (λ section. unt.of section) (on c.pid item))) (rw (not_on c.pid item (λ e. h (cc))) refl)
 
 pub elsewhere : (me : Receiver) (item : Heard) (earlier : List Heard) → IsElsewhere me earlier item.pid → IsUnmoved me item earlier
 unfolding time_said

@@ -3,16 +3,20 @@
 use Rattle.std.specs.Prelude.{ℕ, ◌-◌, ◌%◌, Bool, false, ◌&&◌, ◌||◌, not, ◌==◌, nat_le, nat_lt, List, [], ◌∷◌, ◌++◌}
 use Rattle.std.specs.Prelude.{length, take, Option, Some, None, unwrap_or, if◌then◌else◌}
 use Rattle.std.specs.List.{filter, find, list_any}
-use Rattle.std.specs.Option.{option_map}
+use Rattle.std.specs.Option.{option_map, option_and_then}
 use Rattle.route_part.specs.Part.{since}
 use Rattle.route_part.specs.Said.{last_said, fixed_said}
 use Rattle.ts_section.specs.Events.{Heard}
 use Rattle.si_desc.specs.declared.linkages.ServiceRef.{ServiceRef}
 use Rattle.ssu_time.specs.declared.windows.Window.{Window}
 use Rattle.ssu_unt.specs.Targeting.{TargetFields}
-use Rattle.route_tables.specs.Values.{Receiver, ProgramFound, TaggedStream, ComponentFound, NoticeFound}
-use Rattle.route_tables.specs.Values.{CarouselFound, same_service, same_services, same_program, same_component}
-use Rattle.route_tables.specs.Said.{first_some, services_said, program_said, service_said, component_said, number_said, entries_said, time_said}
+use Rattle.route_tables.specs.Values.{Receiver, ProgramFound, TaggedStream, ComponentFound, NoticeFound, CarouselFound}
+use Rattle.route_tables.specs.Values.{same_service, same_services, same_program, same_component}
+use Rattle.route_tables.specs.Said.{first_some, services_said, program_said, service_said, component_said, number_said}
+use Rattle.route_tables.specs.Said.{entries_said, time_said, body_if, is_update_for, linked_service, type_of}
+use Rattle.si_desc.specs.Descriptors.{DescFields}
+use Rattle.si_desc.specs.Linkage.{linkage}
+use Rattle.si_desc.specs.SsuInfo.{InfoFields, update_infos}
 
 -- ---- Level 1, the linkage
 
@@ -107,14 +111,38 @@ entry_open manual_allowed now e =
 abbrev pub carousel_at : List TaggedStream → TargetFields → Option CarouselFound
 carousel_at tagged e = option_map (λ s. record { pid = s.pid; subgroup = e.subgroup }) (find (λ s. s.tag == e.tag) tagged)
 
-abbrev pub carousel_by : Receiver → Option ℕ → Option ComponentFound → List TargetFields → Option CarouselFound
-carousel_by me now None entries = None
-carousel_by me now (Some c) entries =
+-- the carousel of a box that does or does not allow manual updates
+abbrev pub carousel_from : Bool → Option ℕ → Option ComponentFound → List TargetFields → Option CarouselFound
+carousel_from manual now None entries = None
+carousel_from manual now (Some c) entries =
     if has_notice c
-    then first_some (carousel_at c.tagged) (filter (entry_open me.file.manual now) entries)
+    then first_some (carousel_at c.tagged) (filter (entry_open manual now) entries)
     else Some (record { pid = c.pid; subgroup = None })
 
 -- For update type 1, the component itself, without a subgroup. For type 2, the carousel of the first entry that is open
 -- and leads to one. Nothing is kept for it: it comes anew of levels 3 and 4 and of the time.
 unfoldable pub level_5 : Receiver → List Heard → Option CarouselFound
-level_5 me heard = carousel_by me (time_now heard) (level_3 me heard) (level_4 me heard)
+level_5 me heard = carousel_from me.file.manual (time_now heard) (level_3 me heard) (level_4 me heard)
+
+-- ---- What single descriptors and entries say
+
+-- the service to which a descriptor leads
+abbrev pub linked_by : ℕ → DescFields → Option ServiceRef
+linked_by oui d = option_and_then (λ body. option_and_then (linked_service oui) (linkage.of body)) (body_if 0x4A d)
+
+-- the update type of the first of the entries for the OUI
+abbrev pub first_type_of : ℕ → List InfoFields → Option ℕ
+first_type_of oui infos = option_map type_of (find (is_update_for oui) infos)
+
+-- and that which a descriptor gives
+abbrev pub type_by : ℕ → DescFields → Option ℕ
+type_by oui d = option_and_then (λ body. option_and_then (first_type_of oui) (update_infos.of body)) (body_if 0x66 d)
+
+-- the carousel of an entry, if it is open and leads to one
+abbrev pub carousel_if : Bool → Option ℕ → List TaggedStream → TargetFields → Option CarouselFound
+carousel_if manual now tagged e = if entry_open manual now e then carousel_at tagged e else None
+
+-- is this the number, where there is one?
+abbrev pub is_number : ℕ → Option ℕ → Bool
+is_number n None = false
+is_number n (Some m) = m == n

@@ -2,6 +2,4 @@ pub mod Values
 pub mod Said
 pub mod Levels
 pub mod Next
-pub mod Parts
 pub mod Standing
-pub mod Unmoved

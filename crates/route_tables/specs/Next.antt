@@ -12,8 +12,8 @@ use Rattle.ssu_unt.specs.Table.{UntFields, unt}
 use Rattle.ssu_unt.specs.Targeting.{Me, TargetFields, targeted}
 use Rattle.ssu_unt.specs.Views.{me_view}
 use Rattle.route_tables.specs.Values.{ProgramFound, ComponentFound, NoticeFound, same_service}
-use Rattle.route_tables.specs.Said.{on, is_network_table, linked_services, pid_in_pat, component_in_pmt, is_notice_for, time_said}
-use Rattle.route_tables.specs.Levels.{has_notice}
+use Rattle.route_tables.specs.Said.{on, is_network_table, linked_services, pid_in_pat, component_in_pmt, notice_if, time_said}
+use Rattle.route_tables.specs.Levels.{has_notice, notice_found, program_found}
 
 -- a section, heard on this PID
 abbrev pub heard_on : ℕ → List ℕ → Heard
@@ -50,16 +50,13 @@ services_after None oui item before = add_linked oui (loop_in item) before
 abbrev pub pat_in : Heard → Option PatFields
 pat_in item = option_and_then (λ section. pat.of section) (on pat_pid item)
 
-abbrev pub program_at : ServiceRef → ℕ → ProgramFound
-program_at s pid = record { service = s; pid = pid }
-
 -- the first of the services that a PAT lists
 unfoldable pub first_listed : List ServiceRef → PatFields → Option ProgramFound
 first_listed [] p = None
-first_listed (s ∷ later) p = option_or (option_map (program_at s) (pid_in_pat s p)) (first_listed later p)
+first_listed (s ∷ later) p = option_or (option_map (λ pid. program_found (s, pid)) (pid_in_pat s p)) (first_listed later p)
 
 abbrev pub listed_again : PatFields → ProgramFound → ProgramFound
-listed_again p found = program_at found.service (unwrap_or (pid_in_pat found.service p) found.pid)
+listed_again p found = program_found (found.service, unwrap_or (pid_in_pat found.service p) found.pid)
 
 abbrev pub program_by_pat : List ServiceRef → PatFields → Option ProgramFound → Option ProgramFound
 program_by_pat services p None = first_listed services p
@@ -87,23 +84,17 @@ component_after is_same oui program item before = if is_same then unwrap_or (dec
 
 -- ---- Level 4, the notice
 
-abbrev pub notice_table : ℕ → UntFields → Option UntFields
-notice_table oui u = if is_notice_for oui u then Some u else None
-
 -- the table in the section, where the component has notices and it is on the component's PID and for the OUI
 abbrev pub unt_in : ℕ → Option ComponentFound → Heard → Option UntFields
 unt_in oui None item = None
 unt_in oui (Some c) item =
-    if has_notice c then option_and_then (notice_table oui) (option_and_then (λ section. unt.of section) (on c.pid item)) else None
-
-abbrev pub notice_at : ℕ → List TargetFields → NoticeFound
-notice_at number entries = record { number = number; entries = entries }
+    if has_notice c then option_and_then (notice_if oui) (option_and_then (λ section. unt.of section) (on c.pid item)) else None
 
 abbrev pub first_notice : ℕ → List TargetFields → Option NoticeFound
-first_notice number entries = if length entries == 0 then None else Some (notice_at number entries)
+first_notice number entries = if length entries == 0 then None else Some (notice_found (number, entries))
 
 abbrev pub notice_again : Me → UntFields → NoticeFound → NoticeFound
-notice_again me u n = if u.number == n.number then notice_at n.number (targeted me u) else n
+notice_again me u n = if u.number == n.number then notice_found (n.number, targeted me u) else n
 
 abbrev pub notice_by_table : Me → UntFields → Option NoticeFound → Option NoticeFound
 notice_by_table me u None = first_notice u.number (targeted me u)

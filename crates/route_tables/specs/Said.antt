@@ -10,8 +10,8 @@ use Rattle.si_desc.specs.Descriptors.{DescFields, whole_descriptors, first_body,
 use Rattle.si_desc.specs.Linkage.{LinkageFields, OuiFields, linkage, update_ouis, lists}
 use Rattle.si_desc.specs.SsuInfo.{InfoFields, update_infos}
 use Rattle.si_table.specs.Pids.{pat_pid, nit_pid, bat_pid, time_pid}
-use Rattle.si_table.specs.Tables.{ProgramFields, PatFields, pat, StreamFields, PmtFields, pmt, NetFields, net}
-use Rattle.si_table.specs.Times.{TotFields, tdt, tot}
+use Rattle.si_table.specs.Tables.{PatFields, pat, StreamFields, PmtFields, pmt, NetFields, net}
+use Rattle.si_table.specs.Times.{tdt, tot}
 use Rattle.ssu_time.specs.UtcField.{TimeFields, seconds_of}
 use Rattle.ssu_unt.specs.Table.{UntFields, unt}
 use Rattle.ssu_unt.specs.Targeting.{TargetFields, targeted}
@@ -64,14 +64,11 @@ services_said oui item = services_in oui item.pid (net.of item.section)
 -- ---- Programs: ISO/IEC 13818-1, 2.4.4.3. A PAT lists the services of its transport stream by their number, which is the
 -- program_number. Number 0 names the network PID and is no service.
 
-abbrev pub program_pid : ProgramFields → ℕ
-program_pid p = p.pid
-
 -- The PID of the PMT is that of the first entry with the number.
 abbrev pub pid_in_pat : ServiceRef → PatFields → Option ℕ
 pid_in_pat s p =
     if p.ts == s.ts && not (s.service == 0)
-    then option_map program_pid (find (λ e. e.number == s.service) p.programs)
+    then option_map (λ e. e.pid) (find (λ e. e.number == s.service) p.programs)
     else None
 
 -- the PID of the service's PMT, where the section is a PAT that lists the service
@@ -124,12 +121,12 @@ component_said oui program item =
 abbrev pub is_notice_for : ℕ → UntFields → Bool
 is_notice_for oui u = u.action == 1 && u.oui == oui
 
-abbrev pub notice_if : Receiver → UntFields → Option UntFields
-notice_if me u = if is_notice_for me.file.id.oui u then Some u else None
+abbrev pub notice_if : ℕ → UntFields → Option UntFields
+notice_if oui u = if is_notice_for oui u then Some u else None
 
 -- the table in the section, where it was heard on this PID and is for the OUI
 unfoldable pub notice_in : Receiver → ℕ → Heard → Option UntFields
-notice_in me pid item = option_and_then (notice_if me) (option_and_then (λ section. unt.of section) (on pid item))
+notice_in me pid item = option_and_then (notice_if me.file.id.oui) (option_and_then (λ section. unt.of section) (on pid item))
 
 -- the entries for the box
 abbrev pub entries_for : Receiver → UntFields → List TargetFields
@@ -151,11 +148,8 @@ entries_said me pid number item = option_and_then (entries_under me number) (not
 
 -- ---- The time: EN 300 468, 5.2.5 and 5.2.6. TDT and TOT are heard on PID 0x0014.
 
-abbrev pub time_of : TotFields → TimeFields
-time_of t = t.time
-
 abbrev pub time_in : List ℕ → Option TimeFields
-time_in section = option_or (tdt.of section) (option_map time_of (tot.of section))
+time_in section = option_or (tdt.of section) (option_map (λ t. t.time) (tot.of section))
 
 -- the second that a TDT or TOT tells, counted from the beginning of the day with Modified Julian Date 0
 unfoldable pub time_said : Heard → Option ℕ

@@ -1,5 +1,5 @@
 -- What the tables that were heard are kept as, and what they stand for.
-use Rattle.std.specs.Prelude.{◌≡◌, ℕ, Bool, false, List, map, Option, Some, None}
+use Rattle.std.specs.Prelude.{◌≡◌, ℕ, Bool, false, List, map, Option, Some, None, ◌≢◌, ◌∷◌}
 use Rattle.std.specs.Option.{option_map}
 use Rattle.ts_section.specs.Events.{Heard}
 use Rattle.si_desc.specs.declared.linkages.ServiceRef.{ServiceRef}
@@ -12,7 +12,11 @@ use Rattle.route_tables.specs.declared.component.Component.{Component}
 use Rattle.route_tables.specs.declared.notice.Notice.{Notice}
 use Rattle.route_tables.specs.declared.tables.Tables.{Tables}
 use Rattle.route_tables.specs.Values.{Receiver, ProgramFound, TaggedStream, ComponentFound, NoticeFound, CarouselFound}
-use Rattle.route_tables.specs.Levels.{has_notice, level_1, level_2, level_3, notice, time_now, level_5}
+use Rattle.route_tables.specs.Levels.{has_notice, level_1, level_2, level_3, notice, time_now, level_5, level_4}
+use Rattle.si_table.specs.Pids.{pat_pid, nit_pid, bat_pid, time_pid}
+use Rattle.si_table.specs.Tables.{pat, pmt, net}
+use Rattle.si_table.specs.Times.{tdt, tot}
+use Rattle.ssu_unt.specs.Table.{unt}
 
 -- ---- what is kept, as values
 
@@ -50,22 +54,37 @@ pub record TablesStand (me : Receiver) (heard : List Heard) (tables : Tables) : 
 
 -- ---- what is asked of the levels
 
-abbrev pub pid_of_program : ProgramFound → ℕ
-pid_of_program p = p.pid
-
-abbrev pub pid_of_component : ComponentFound → ℕ
-pid_of_component c = c.pid
-
-abbrev pub pid_of_carousel : CarouselFound → ℕ
-pid_of_carousel c = c.pid
-
-abbrev pub service_and_pid : ProgramFound → ℕ × ℕ
-service_and_pid p = (p.service.service, p.pid)
-
-abbrev pub pid_and_type : ComponentFound → ℕ × ℕ
-pid_and_type c = (c.pid, c.update_type)
-
 -- For update type 1 there is no notice that could be missing.
 abbrev pub needs_notice : Option ComponentFound → Bool
 needs_notice None = false
 needs_notice (Some c) = has_notice c
+
+-- ---- sections that change nothing, whatever their bytes are
+
+-- The bytes are of none of the formats.
+pub record IsSilent (section : List ℕ) : Type 0 where
+  pub pat : pat.of section ≡ None
+  pub net : net.of section ≡ None
+  pub pmt : pmt.of section ≡ None
+  pub unt : unt.of section ≡ None
+  pub tdt : tdt.of section ≡ None
+  pub tot : tot.of section ≡ None
+
+-- The PID is none on which a table is looked for.
+pub record IsElsewhere (me : Receiver) (heard : List Heard) (pid : ℕ) : Type 0 where
+  pub pat : pid ≢ pat_pid
+  pub nit : pid ≢ nit_pid
+  pub bat : pid ≢ bat_pid
+  pub time : pid ≢ time_pid
+  pub program : option_map (λ p. p.pid) (level_2 me heard) ≢ Some pid
+  pub component : option_map (λ c. c.pid) (level_3 me heard) ≢ Some pid
+
+-- A section leaves each level as it was.
+pub record IsUnmoved (me : Receiver) (item : Heard) (earlier : List Heard) : Type 0 where
+  pub services : level_1 me (item ∷ earlier) ≡ level_1 me earlier
+  pub program : level_2 me (item ∷ earlier) ≡ level_2 me earlier
+  pub component : level_3 me (item ∷ earlier) ≡ level_3 me earlier
+  pub notice : notice me (item ∷ earlier) ≡ notice me earlier
+  pub entries : level_4 me (item ∷ earlier) ≡ level_4 me earlier
+  pub time : time_now (item ∷ earlier) ≡ time_now earlier
+  pub carousel : level_5 me (item ∷ earlier) ≡ level_5 me earlier

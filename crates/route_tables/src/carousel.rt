@@ -5,8 +5,7 @@ ghost use Rattle.std.specs.List.{filter, find};
 ghost use Rattle.std.specs.Option.{option_map};
 ghost use Rattle.ssu_unt.specs.Views.{entry_view};
 ghost use Rattle.route_tables.specs.Said.{first_some};
-ghost use Rattle.route_tables.specs.Levels.{carousel_at, entries_of, entry_open};
-ghost use Rattle.route_tables.specs.Parts.{carousel_from, carousel_if};
+ghost use Rattle.route_tables.specs.Levels.{carousel_at, entries_of, entry_open, carousel_from, carousel_if};
 ghost use Rattle.route_tables.specs.Standing.{carousel_view, component_view, notice_view, tagged_view};
 
 use crate::component::{Component, Tagged};

@@ -12,9 +12,8 @@ ghost use Rattle.si_table.specs.Tables.{stream};
 ghost use Rattle.si_table.specs.Views.{pmt_view, stream_view};
 ghost use Rattle.route_tables.specs.Values.{same_component, same_component_found, same_list, same_stream};
 ghost use Rattle.route_tables.specs.Said.{component_in_pmt, component_of, component_tag_of, first_some, tagged_stream, update_type_of};
-ghost use Rattle.route_tables.specs.Levels.{has_notice};
+ghost use Rattle.route_tables.specs.Levels.{has_notice, first_type_of, type_by};
 ghost use Rattle.route_tables.specs.Next.{component_after, decided, heard_on, pmt_in};
-ghost use Rattle.route_tables.specs.Parts.{first_type_of, type_by};
 ghost use Rattle.route_tables.specs.Standing.{component_view, program_view, tagged_view};
 
 use crate::program::Program;

@@ -3,7 +3,7 @@
 ghost use Rattle.std.specs.Prelude.{List};
 ghost use Rattle.ts_section.specs.Events.{Heard};
 ghost use Rattle.route_tables.specs.Values.{Receiver};
-ghost use Rattle.route_tables.specs.Unmoved.{IsSilent, IsElsewhere, IsUnmoved};
+ghost use Rattle.route_tables.specs.Standing.{IsSilent, IsElsewhere, IsUnmoved};
 
 /// A section that is of none of the formats leaves every level as it was, on whatever PID; and so does any section on a
 /// PID on which no table is looked for.

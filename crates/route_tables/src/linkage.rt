@@ -8,7 +8,7 @@ ghost use Rattle.si_desc.specs.Views.{desc_view};
 ghost use Rattle.route_tables.specs.Values.{same_service, same_services};
 ghost use Rattle.route_tables.specs.Said.{lists_oui as lists_in, linked_service, linked_services};
 ghost use Rattle.route_tables.specs.Next.{add_linked as with_linked, add_service, add_services, heard_on, loop_in, services_after};
-ghost use Rattle.route_tables.specs.Parts.{linked_by};
+ghost use Rattle.route_tables.specs.Levels.{linked_by};
 ghost use Rattle.route_tables.specs.Standing.{service_view};
 
 use arrayvec::ArrayVec;

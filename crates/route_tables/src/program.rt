@@ -6,7 +6,7 @@ ghost use Rattle.std.specs.Option.{option_map};
 ghost use Rattle.wire.specs.Read.{Reads};
 ghost use Rattle.si_table.specs.Views.{pat_view};
 ghost use Rattle.route_tables.specs.Values.{same_program};
-ghost use Rattle.route_tables.specs.Said.{pid_in_pat, program_pid};
+ghost use Rattle.route_tables.specs.Said.{pid_in_pat};
 ghost use Rattle.route_tables.specs.Next.{first_listed, heard_on, listed_again, pat_in, program_after, program_by_pat};
 ghost use Rattle.route_tables.specs.Standing.{program_view, service_view};
 
@@ -125,7 +125,7 @@ fn pid_in(service: Service, pat: &Pat<'_>) -> Option<Pid>
 }
 
 fn pid_of_number(number: u16, pat: &Pat<'_>) -> Option<Pid>
-    ensures { result ≡ option_map program_pid (find (λ e. e.number == number) (pat_view pat.now).programs) }
+    ensures { result ≡ option_map (λ e. e.pid) (find (λ e. e.number == number) (pat_view pat.now).programs) }
 {
     for program in pat.programs() {
         if program.number == number {

@@ -5,11 +5,9 @@ ghost use Rattle.std.specs.Option.{option_map};
 ghost use Rattle.ts_section.specs.Events.{Heard};
 ghost use Rattle.route_tables.specs.Values.{Receiver};
 ghost use Rattle.si_table.specs.Pids.{pat_pid, nit_pid, bat_pid, time_pid};
-ghost use Rattle.route_tables.specs.Parts.{is_number};
-ghost use Rattle.route_tables.specs.Unmoved.{IsElsewhere};
-ghost use Rattle.route_tables.specs.Levels.{level_1, level_2, level_3, level_4, level_5};
+ghost use Rattle.route_tables.specs.Levels.{is_number, level_1, level_2, level_3, level_4, level_5};
+ghost use Rattle.route_tables.specs.Standing.{IsElsewhere, TablesStand, carousel_view, needs_notice as is_needed, service_view};
 ghost use Rattle.route_tables.specs.Next.{heard_on};
-ghost use Rattle.route_tables.specs.Standing.{TablesStand, carousel_view, needs_notice as is_needed, pid_and_type, service_and_pid, service_view};
 
 use crate::carousel::{Carousel, carousel_now};
 use crate::clock::{self, TIME_PID};
@@ -136,7 +134,7 @@ impl Tables {
     /// a service that carries updates since those services last changed.
     pub fn program(&self) -> Option<(u16, Pid)>
         ensures { (me : Receiver) → (heard : List Heard) → TablesStand me heard self.now
-            → result ≡ option_map service_and_pid (level_2 me heard) }
+            → result ≡ option_map (λ p. (p.service.service, p.pid)) (level_2 me heard) }
     {
         let Some(program) = &self.program else {
             return None;
@@ -148,7 +146,7 @@ impl Tables {
     /// of the program was heard since the program last changed, or the last one has no such stream.
     pub fn component(&self) -> Option<(Pid, u8)>
         ensures { (me : Receiver) → (heard : List Heard) → TablesStand me heard self.now
-            → result ≡ option_map pid_and_type (level_3 me heard) }
+            → result ≡ option_map (λ c. (c.pid, c.update_type)) (level_3 me heard) }
     {
         let Some(component) = &self.component else {
             return None;

@@ -6,7 +6,7 @@ use Rattle.wire.specs.Exact.{IsFront, IsWhole}
 use Rattle.wire.proofs.Laws.{reads_exact, such_exact, sized_exact, pair_exact, then_exact}
 use Rattle.wire.proofs.Laws.{before_exact, rest_exact, only_exact, checked_exact, whole_such_exact, whole_reads_exact}
 use Rattle.wire.proofs.Numbers.{number1, number2}
-use Rattle.section_form.specs.Long.{LongFields, is_long_head, length_of, long_head, is_current, version_of, current_version, behind_length, fields_of, has_right_crc, unchecked_form, long_form, body_of, section_of}
+use Rattle.section_form.specs.Long.{LongFields, is_long_head, length_of, long_head, is_current, current_version, behind_length, fields_of, has_right_crc, unchecked_form, long_form, body_of, section_of}
 
 pub long_head_exact : IsFront long_head
 unfolding long_head
@@ -14,7 +14,7 @@ long_head_exact = reads_exact length_of (such_exact is_long_head number2)
 
 pub current_version_exact : IsFront current_version
 unfolding current_version
-current_version_exact = reads_exact version_of (such_exact is_current number1)
+current_version_exact = reads_exact _ (such_exact is_current number1)
 
 pub behind_length_exact : IsWhole behind_length
 unfolding behind_length

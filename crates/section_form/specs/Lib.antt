@@ -1,4 +1,3 @@
 pub mod Long
 pub mod Section
-pub mod Shown
 pub mod Written

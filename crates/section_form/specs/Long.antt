@@ -4,6 +4,7 @@ use Rattle.ts_crc.specs.Crc.{crc_of}
 use Rattle.wire.specs.Format.{Front, Whole, ◌&◌, ◌then◌, reads, such, sized, only, rest, before, checked, whole_such, whole_reads}
 use Rattle.wire.specs.Inside.{inside}
 use Rattle.wire.specs.Number.{number}
+use Rattle.section_form.specs.declared.reading.LongForm.{LongForm}
 
 -- The fields of a section in the long form. Its body stands between last_section_number and CRC_32.
 pub record LongFields : Type 0 where
@@ -28,11 +29,8 @@ long_head = reads length_of (such is_long_head (number 2))
 abbrev pub is_current : ℕ → Bool
 is_current n = n % 2 == 1
 
-abbrev pub version_of : ℕ → ℕ
-version_of n = n / 2 % 2 ^ 5
-
 unfoldable pub current_version : Front ℕ
-current_version = reads version_of (such is_current (number 1))
+current_version = reads (λ n. n / 2 % 2 ^ 5) (such is_current (number 1))
 
 -- table_id_extension 16, version, section_number 8, last_section_number 8, the body, and four bytes of CRC_32: at least
 -- nine bytes
@@ -76,3 +74,14 @@ section_of is_head body = inside (whole_such is_head long_form) body_of body
 -- the test on table_id alone
 abbrev pub has_table : ℕ → LongFields → Bool
 has_table table head = head.table == table
+
+-- what a LongForm shows, without where its body lies in memory
+abbrev pub fields : LongForm → LongFields
+fields f = record {
+  table = f.table;
+  extension = f.extension;
+  version = f.version;
+  number = f.number;
+  last = f.last;
+  body = f.body.now;
+}

@@ -76,6 +76,3 @@ is_right_short section =
 
 unfoldable pub is_right : List ℕ → Bool
 is_right section = is_time_and_date section || is_right_long section || is_right_short section
-
-abbrev pub is_whole : List ℕ → Bool
-is_whole section = nat_le 3 (length section) && (length section == section_end section)

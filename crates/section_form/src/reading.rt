@@ -7,9 +7,8 @@
 ghost use Rattle.std.specs.Prelude.{◌≡◌, Some, IfSome};
 ghost use Rattle.std.specs.Option.{option_map};
 ghost use Rattle.wire.specs.Read.{Reads};
-ghost use Rattle.section_form.specs.Long.{LongFields, long_form, unchecked_form, long_head, current_version, behind_length};
+ghost use Rattle.section_form.specs.Long.{LongFields, long_form, unchecked_form, long_head, current_version, behind_length, fields};
 ghost use Rattle.section_form.specs.Section.{IsRight};
-ghost use Rattle.section_form.specs.Shown.{fields};
 
 use ts_crc::crc;
 use wire::{raw_at, u8_at, u16_at};

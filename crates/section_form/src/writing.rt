@@ -1,9 +1,8 @@
 //! Writes a section in the long form: ISO/IEC 13818-1, 2.4.4.11.
 
 ghost use Rattle.std.specs.Prelude.{◌≡◌, ◌≢◌, ◌≤◌, ◌<◌, ◌*◌, [], length, Some, IfOk, OnOk};
-ghost use Rattle.section_form.specs.Long.{long_form};
+ghost use Rattle.section_form.specs.Long.{long_form, fields};
 ghost use Rattle.section_form.specs.Section.{IsRightSection};
-ghost use Rattle.section_form.specs.Shown.{fields};
 ghost use Rattle.section_form.specs.Written.{long_bytes, long_text, head_bits, only_section};
 
 use crate::reading::LongForm;

@@ -1,7 +1,7 @@
 -- A section that a reader accepts is of its kind, so one without a kind is accepted by none.
 use Rattle.std.specs.Prelude.{IfNone}
 use Rattle.std.specs.Option.{option_or}
-use Rattle.std.proofs.Common.{◌≡◌, ℕ, ◌<◌, arith, get_or, length, List, [], ◌∷◌, Option, Some, None, sym, refl, inl, inr}
+use Rattle.std.proofs.Common.{option_map, ◌≡◌, ℕ, ◌<◌, arith, get_or, length, List, [], ◌∷◌, Option, Some, None, sym, refl, inl, inr}
 use Rattle.section_kind.specs.declared.section_kinds.SectionKind.{SectionKind}
 use Rattle.section_kind.specs.declared.section_kinds.SectionKind.TheVariants.{Pat, Pmt, Tdt, Tot, Unt, Dsi, Dii, Ddb}
 use Rattle.si_table.specs.Tables.{NetFields, PatFields, PmtFields, net, pat, pmt}
@@ -10,7 +10,7 @@ use Rattle.si_table.specs.Times.{TotFields, tdt, tot}
 use Rattle.ssu_unt.specs.Table.{UntFields, unt}
 use Rattle.dsmcc_msg.specs.Control.{DiiFields, DsiFields, dii, dsi}
 use Rattle.dsmcc_msg.specs.Block.{DdbFields, ddb}
-use Rattle.section_kind.specs.Kinds.{IsOfNoKind, kind_by, kind_of, dsi_kind, nit_or_bat, utc_of}
+use Rattle.section_kind.specs.Kinds.{IsOfNoKind, kind_by, kind_of, nit_or_bat, utc_of}
 use Rattle.section_kind.proofs.Heads.{Begins, pat_begins, pmt_begins, net_begins, tdt_begins, tot_begins, unt_begins, dsi_begins, dii_begins, ddb_begins}
 
 -- the section has a kind
@@ -58,7 +58,7 @@ or_has None k = (k, refl)
 
 dii_has : (rest : List ℕ) (d : DiiFields) → dii.of (0x3B ∷ rest) ≡ Some d → HasKind (0x3B ∷ rest)
 unfolding kind_of
-dii_has rest d e = let h = or_has (dsi_kind (0x3B ∷ rest)) Dii in (h.0, rw e h.1)
+dii_has rest d e = let h = or_has (option_map (λ _. Dsi) (dsi.of (0x3B ∷ rest))) Dii in (h.0, rw e h.1)
 
 ddb_has : (rest : List ℕ) (d : DdbFields) → ddb.of (0x3C ∷ rest) ≡ Some d → HasKind (0x3C ∷ rest)
 unfolding kind_of

@@ -4,9 +4,9 @@ use Rattle.wire.proofs.Laws.{pair_exact, sized_exact, then_exact, reads_exact, w
 use Rattle.wire.proofs.Laws.{rest_exact, fixed_exact, only_exact, kept_exact, to_end_exact}
 use Rattle.wire.proofs.Numbers.{number1, number2, number3, number5, low12, low_exact}
 use Rattle.std.specs.Prelude.{refl}
-use Rattle.si_desc.specs.Descriptors.{desc_fields, descriptor, row, sized_row, stream_identifier, subgroup_association}
-use Rattle.si_desc.specs.Linkage.{linkage_fields, linkage, oui_fields, oui_entry, without_private, update_ouis}
-use Rattle.si_desc.specs.SsuInfo.{info_fields, info, listed_infos, update_infos}
+use Rattle.si_desc.specs.Descriptors.{descriptor, row, sized_row, stream_identifier, subgroup_association}
+use Rattle.si_desc.specs.Linkage.{linkage_fields, linkage, oui_entry, update_ouis}
+use Rattle.si_desc.specs.SsuInfo.{info_fields, info, update_infos}
 use Rattle.si_desc.specs.Exact.{descriptor_exact, oui_entry_exact, info_exact}
 
 pub row_exact : IsWhole row
@@ -33,9 +33,9 @@ linkage_exact =
 pub update_ouis_exact : IsWhole update_ouis
 unfolding update_ouis
 update_ouis_exact =
-    whole_reads_exact without_private (then_exact (sized_exact number1 (to_end_exact oui_entry_exact)) (λ _. rest_exact))
+    whole_reads_exact _ (then_exact (sized_exact number1 (to_end_exact oui_entry_exact)) (λ _. rest_exact))
 
 pub update_infos_exact : IsWhole update_infos
 unfolding update_infos
 update_infos_exact =
-    whole_reads_exact listed_infos (then_exact (fixed_exact 0x000A number2) (λ _. then_exact (sized_exact number1 (to_end_exact info_exact)) (λ _. rest_exact)))
+    whole_reads_exact _ (then_exact (fixed_exact 0x000A number2) (λ _. then_exact (sized_exact number1 (to_end_exact info_exact)) (λ _. rest_exact)))

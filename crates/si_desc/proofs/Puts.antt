@@ -2,10 +2,10 @@
 use Rattle.std.proofs.Common.{ℕ, ◌+◌, ◌*◌, ◌<◌, ◌^◌, List, [], ◌∷◌, ◌++◌, length, refl, arith, false}
 use Rattle.wire.specs.Number.{bytes_of}
 use Rattle.wire.proofs.Numbers.{number1_put, number2_put, number3_put, low_put}
-use Rattle.si_desc.specs.Descriptors.{descriptor, stream_identifier}
+use Rattle.si_desc.specs.Descriptors.{IsDescriptor, descriptor, stream_identifier}
 use Rattle.si_desc.specs.Linkage.{OuiFields, linkage, oui_entry, update_ouis}
 use Rattle.si_desc.specs.SsuInfo.{InfoFields, info, update_infos}
-use Rattle.si_desc.specs.Written.{IsComponentTag, IsUpdateInfo, IsUpdateLinkage, component_bytes, info_bytes, linkage_bytes}
+use Rattle.si_desc.specs.Written.{IsUpdateLinkage, component_bytes, info_bytes, linkage_bytes, written_info}
 use Rattle.si_desc.specs.declared.linkages.ServiceRef.{ServiceRef}
 
 -- a tag, the length of a body, and the body
@@ -23,12 +23,12 @@ desc_put tag body t l = (
   },
 )
 
-pub component_put : (tag : ℕ) → tag < 2 ^ 8 → IsComponentTag tag (component_bytes tag)
+pub component_put : (tag : ℕ) → tag < 2 ^ 8 → IsDescriptor stream_identifier 0x52 tag (component_bytes tag)
 unfolding stream_identifier
 component_put tag h = record {
   body = bytes_of 1 tag;
   spelled = desc_put 0x52 (bytes_of 1 tag) (omega arith) (omega arith);
-  tagged = number1_put tag h;
+  says = number1_put tag h;
 }
 
 entry_put : (oui update_type : ℕ) → oui < 2 ^ 24 → update_type < 16
@@ -58,7 +58,7 @@ entry_put oui update_type h k = (
   },
 )
 
-pub info_put : (oui update_type : ℕ) → oui < 2 ^ 24 → update_type < 16 → IsUpdateInfo oui update_type (info_bytes oui update_type)
+pub info_put : (oui update_type : ℕ) → oui < 2 ^ 24 → update_type < 16 → IsDescriptor update_infos 0x66 (written_info oui update_type ∷ []) (info_bytes oui update_type)
 unfolding update_infos
 info_put oui update_type h k =
     let entry = bytes_of 3 oui ++ bytes_of 1 (15 * 16 + update_type) ++ bytes_of 1 0xC0 ++ bytes_of 1 0 in
@@ -67,7 +67,7 @@ info_put oui update_type h k =
     record {
       body = body;
       spelled = desc_put 0x66 body (omega arith) (omega arith);
-      listed = (
+      says = (
         (tt, (fields ∷ [], [])),
         refl,
         record {

@@ -10,12 +10,9 @@ pub record DescFields : Type 0 where
   pub tag : ℕ
   pub body : List ℕ
 
-abbrev pub desc_fields : ℕ × List ℕ → DescFields
-desc_fields x = record { tag = x.0; body = x.1 }
-
 -- descriptor_tag 8; descriptor_length 8 and that many bytes
 unfoldable pub descriptor : Front DescFields
-descriptor = reads desc_fields (
+descriptor = reads (λ x. record { tag = x.0; body = x.1 }) (
     number 1 &
     sized (number 1) rest)
 
@@ -41,6 +38,12 @@ body_of d = d.body
 -- the body of the first of them with that tag
 unfoldable pub first_body : ℕ → List ℕ → Option (List ℕ)
 first_body tag bytes = option_map body_of (find (λ d. d.tag == tag) (whole_descriptors bytes))
+
+-- The bytes are a descriptor of this tag, whose body says this in this format.
+pub record IsDescriptor {A : Type 0} (format : Whole A) (tag : ℕ) (value : A) (bytes : List ℕ) : Type 0 where
+  pub body : List ℕ
+  pub spelled : descriptor.Spells (record { tag = tag; body = body }) bytes
+  pub says : format.Spells value body
 
 -- stream_identifier_descriptor, tag 0x52 (EN 300 468 6.2.39): component_tag 8, and nothing else
 unfoldable pub stream_identifier : Whole ℕ

@@ -28,22 +28,16 @@ pub record OuiFields : Type 0 where
   pub oui : ℕ
   pub selector : List ℕ
 
-abbrev pub oui_fields : ℕ × List ℕ → OuiFields
-oui_fields x = record { oui = x.0; selector = x.1 }
-
 -- OUI 24; selector_length 8 and that many bytes
 unfoldable pub oui_entry : Front OuiFields
-oui_entry = reads oui_fields (
+oui_entry = reads (λ x. record { oui = x.0; selector = x.1 }) (
     number 3 &
     sized (number 1) rest)
-
-abbrev pub without_private : List OuiFields × List ℕ → List OuiFields
-without_private x = x.0
 
 -- The rest of a linkage of type 0x09: OUI_data_length 8 and in that many bytes entries, which fill
 -- them; private bytes.
 unfoldable pub update_ouis : Whole (List OuiFields)
-update_ouis = whole_reads without_private (
+update_ouis = whole_reads (λ x. x.0) (
     sized (number 1) (to_end oui_entry) then λ _.
     rest)
 

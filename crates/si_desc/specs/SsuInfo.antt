@@ -29,13 +29,10 @@ info = reads info_fields (
     number 1 &
     sized (number 1) rest)
 
-abbrev pub listed_infos : Unit {0} × (List InfoFields × List ℕ) → List InfoFields
-listed_infos x = x.1.0
-
 -- data_broadcast_id 16, which is 0x000A; OUI_data_length 8 and in that many bytes entries, which fill
 -- them; private bytes
 unfoldable pub update_infos : Whole (List InfoFields)
-update_infos = whole_reads listed_infos (
+update_infos = whole_reads (λ x. x.1.0) (
     fixed (number 2) 0x000A then λ _.
     sized (number 1) (to_end info) then λ _.
     rest)

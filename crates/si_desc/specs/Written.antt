@@ -2,9 +2,9 @@
 use Rattle.std.specs.Prelude.{ℕ, ◌+◌, ◌*◌, List, [], ◌∷◌, ◌++◌, length, false}
 use Rattle.wire.specs.Number.{bytes_of, length_bytes}
 use Rattle.si_desc.specs.declared.linkages.ServiceRef.{ServiceRef}
-use Rattle.si_desc.specs.Descriptors.{descriptor, stream_identifier}
+use Rattle.si_desc.specs.Descriptors.{descriptor}
 use Rattle.si_desc.specs.Linkage.{linkage, update_ouis}
-use Rattle.si_desc.specs.SsuInfo.{update_infos}
+use Rattle.si_desc.specs.SsuInfo.{InfoFields}
 
 -- a row behind its length of 12 bits
 abbrev pub row_bytes : List ℕ → List ℕ
@@ -36,18 +36,10 @@ info_bytes oui update_type =
     ++ bytes_of 2 0x000A ++ bytes_of 1 6
     ++ bytes_of 3 oui ++ bytes_of 1 (15 * 16 + update_type) ++ bytes_of 1 0xC0 ++ bytes_of 1 0
 
--- The bytes are a data broadcast id descriptor of a system software update, with one entry.
-pub record IsUpdateInfo (oui update_type : ℕ) (bytes : List ℕ) : Type 0 where
-  pub body : List ℕ
-  pub spelled : descriptor.Spells (record { tag = 0x66; body = body }) bytes
-  pub listed : update_infos.Spells (record { oui = oui; update_type = update_type; versioned = false; version = 0; selector = [] } ∷ []) body
+-- the one entry that it lists
+abbrev pub written_info : ℕ → ℕ → InfoFields
+written_info oui update_type = record { oui = oui; update_type = update_type; versioned = false; version = 0; selector = [] }
 
 -- tag 0x52, 1 byte
 abbrev pub component_bytes : ℕ → List ℕ
 component_bytes tag = bytes_of 1 0x52 ++ bytes_of 1 1 ++ bytes_of 1 tag
-
--- The bytes are a stream identifier descriptor of that component tag.
-pub record IsComponentTag (tag : ℕ) (bytes : List ℕ) : Type 0 where
-  pub body : List ℕ
-  pub spelled : descriptor.Spells (record { tag = 0x52; body = body }) bytes
-  pub tagged : stream_identifier.Spells tag body

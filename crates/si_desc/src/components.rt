@@ -2,8 +2,8 @@
 
 ghost use Rattle.std.specs.Prelude.{◌≡◌, ◌++◌, ℕ, Some, IfSome, OnOk, OnErr};
 ghost use Rattle.wire.specs.Read.{Reads};
-ghost use Rattle.si_desc.specs.Descriptors.{IsRow, stream_identifier};
-ghost use Rattle.si_desc.specs.Written.{IsComponentTag, component_bytes};
+ghost use Rattle.si_desc.specs.Descriptors.{IsDescriptor, IsRow, stream_identifier};
+ghost use Rattle.si_desc.specs.Written.{component_bytes};
 
 use ssu_io::NoMemory;
 
@@ -24,7 +24,7 @@ pub fn component_tag(body: &[u8]) -> Option<u8>
 /// Appends a stream identifier descriptor of that component tag. `NoMemory` leaves `out` as it was.
 pub fn put_component_tag(out: &mut Vec<u8>, tag: u8) -> Result<(), NoMemory>
     ensures put { OnOk result (out.new.items ≡ out.old.items ++ component_bytes tag) }
-    ensures read_back { OnOk result (IsComponentTag tag (component_bytes tag)) }
+    ensures read_back { OnOk result (IsDescriptor stream_identifier 0x52 tag (component_bytes tag)) }
     // A row of descriptors stays one.
     ensures row { IsRow out.old.items → OnOk result (IsRow out.new.items) }
     ensures unchanged { OnErr result (out.new.items ≡ out.old.items) }

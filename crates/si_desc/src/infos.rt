@@ -1,13 +1,13 @@
 //! Data broadcast id descriptor, tag 0x66 (ETSI EN 300 468, 6.2.12), with the selector bytes of id
 //! 0x000A, system software update: ETSI TS 102 006, 7.1.
 
-ghost use Rattle.std.specs.Prelude.{◌≡◌, ◌<◌, ◌++◌, List, ℕ, Some, IfSome, OnOk, OnErr};
+ghost use Rattle.std.specs.Prelude.{◌≡◌, ◌<◌, ◌++◌, ◌∷◌, [], List, ℕ, Some, IfSome, OnOk, OnErr};
 ghost use Rattle.std.specs.Option.{option_map};
 ghost use Rattle.wire.specs.Items.{items_of};
 ghost use Rattle.wire.specs.Read.{Reads};
 ghost use Rattle.si_desc.specs.SsuInfo.{InfoFields, info, update_infos};
-ghost use Rattle.si_desc.specs.Descriptors.{IsRow};
-ghost use Rattle.si_desc.specs.Written.{IsUpdateInfo, info_bytes};
+ghost use Rattle.si_desc.specs.Descriptors.{IsDescriptor, IsRow};
+ghost use Rattle.si_desc.specs.Written.{info_bytes, written_info};
 
 use ssu_compat::Oui;
 use ssu_io::NoMemory;
@@ -93,7 +93,7 @@ fn infos_of(body: &[u8]) -> Option<InfoRow<'_>>
 pub fn put_ssu_info(out: &mut Vec<u8>, oui: Oui, update_type: u8) -> Result<(), NoMemory>
     requires { update_type < 16 }
     ensures put { OnOk result (out.new.items ≡ out.old.items ++ info_bytes oui update_type) }
-    ensures read_back { OnOk result (IsUpdateInfo oui update_type (info_bytes oui update_type)) }
+    ensures read_back { OnOk result (IsDescriptor update_infos 0x66 (written_info oui update_type ∷ []) (info_bytes oui update_type)) }
     // A row of descriptors stays one.
     ensures row { IsRow out.old.items → OnOk result (IsRow out.new.items) }
     ensures unchanged { OnErr result (out.new.items ≡ out.old.items) }
@@ -105,7 +105,7 @@ pub fn put_ssu_info(out: &mut Vec<u8>, oui: Oui, update_type: u8) -> Result<(), 
 fn descriptor_of(oui: Oui, update_type: u8) -> [u8; 11]
     requires { update_type < 16 }
     ensures bytes { result ≡ info_bytes oui update_type }
-    ensures read_back { IsUpdateInfo oui update_type (info_bytes oui update_type) }
+    ensures read_back { IsDescriptor update_infos 0x66 (written_info oui update_type ∷ []) (info_bytes oui update_type) }
 {
     let [_, o, u, i] = oui.get().to_be_bytes();
     [0x66, 9, 0x00, 0x0A, 6, o, u, i, 0xF0 + update_type, 0xC0, 0]

@@ -22,10 +22,10 @@ use Rattle.ssu_time.specs.UtcField.{TimeFields}
 use Rattle.ssu_time.specs.UtcTime.{utc_bytes}
 use Rattle.ssu_time.proofs.UtcFieldLaws.{utc_put}
 use Rattle.si_table.specs.Exact.{stream_exact}
-use Rattle.si_table.specs.Rows.{IsStreamRow}
+use Rattle.si_table.specs.Written.{IsStreamRow, pid_bytes, program_bytes, stream_bytes, pmt_body_bytes, entry_bytes}
+use Rattle.si_table.specs.Written.{net_body_bytes, tdt_bytes, tot_text, tot_bytes, tot_section_length}
 use Rattle.si_table.specs.Tables.{table_of, ProgramFields, program, pat, StreamFields, stream, is_pmt, pmt_body, pmt, net_entry, is_net, net_body, net}
 use Rattle.si_table.specs.Times.{short_head, tdt, tot_inside, tot}
-use Rattle.si_table.specs.Written.{pid_bytes, program_bytes, stream_bytes, pmt_body_bytes, entry_bytes, net_body_bytes, tdt_bytes, tot_text, tot_bytes, tot_section_length}
 
 -- a section of version 0, number 0 of 0
 table_put : {A : Type 0} (w : Whole A) (is_head : LongFields → Bool) (second_bit : Bool) (table extension : ℕ) (body : List ℕ) (a : A) → table < 2 ^ 8 → extension < 2 ^ 16 → length body ≤ 1012

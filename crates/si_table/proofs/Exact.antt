@@ -9,10 +9,10 @@ use Rattle.section_form.specs.Long.{LongFields, has_table, has_right_crc, length
 use Rattle.section_form.proofs.Exact.{section_of_exact}
 use Rattle.si_desc.proofs.Exact.{sized_row_exact}
 use Rattle.ssu_time.proofs.Exact.{utc_exact}
-use Rattle.si_table.specs.Tables.{fits_a_table, table_of, pat_fields, pat}
+use Rattle.si_table.specs.Tables.{fits_a_table, table_of, pat}
 use Rattle.si_table.specs.Tables.{is_pmt, pmt_body, pmt_fields, pmt, is_net}
 use Rattle.si_table.specs.Tables.{net_body, net_fields, net}
-use Rattle.si_table.specs.Times.{is_short, short_head, tdt_fields, tdt, tot_fields, tot_inside, tot}
+use Rattle.si_table.specs.Times.{is_short, short_head, tdt, tot_inside, tot}
 use Rattle.si_table.specs.Exact.{program_exact, stream_exact, net_entry_exact}
 
 pub table_exact : {A : Type 0} (is_head : LongFields → Bool) {body : Whole A} → IsWhole body → IsWhole (table_of is_head body)
@@ -20,7 +20,7 @@ table_exact is_head h = checked_exact fits_a_table (section_of_exact is_head h)
 
 pub pat_exact : IsWhole pat
 unfolding pat
-pat_exact = whole_reads_exact pat_fields (table_exact (has_table 0x00) (to_end_exact program_exact))
+pat_exact = whole_reads_exact _ (table_exact (has_table 0x00) (to_end_exact program_exact))
 
 pub pmt_body_exact : IsWhole pmt_body
 unfolding pmt_body
@@ -44,7 +44,7 @@ short_head_exact = reads_exact length_of (such_exact is_short number2)
 
 pub tdt_exact : IsWhole tdt
 unfolding tdt
-tdt_exact = whole_reads_exact tdt_fields (only_exact (pair_exact (fixed_exact 0x70 number1) (sized_exact short_head_exact (only_exact utc_exact))))
+tdt_exact = whole_reads_exact _ (only_exact (pair_exact (fixed_exact 0x70 number1) (sized_exact short_head_exact (only_exact utc_exact))))
 
 pub tot_inside_exact : IsWhole tot_inside
 unfolding tot_inside
@@ -52,4 +52,4 @@ tot_inside_exact = before_exact 4 (only_exact (pair_exact utc_exact sized_row_ex
 
 pub tot_exact : IsWhole tot
 unfolding tot
-tot_exact = checked_exact fits_a_table (checked_exact has_right_crc (whole_reads_exact tot_fields (only_exact (pair_exact (fixed_exact 0x73 number1) (sized_exact short_head_exact tot_inside_exact)))))
+tot_exact = checked_exact fits_a_table (checked_exact has_right_crc (whole_reads_exact _ (only_exact (pair_exact (fixed_exact 0x73 number1) (sized_exact short_head_exact tot_inside_exact)))))

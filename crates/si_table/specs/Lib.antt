@@ -2,6 +2,5 @@ pub mod Pids
 pub mod Tables
 pub mod Times
 pub mod Exact
-pub mod Rows
 pub mod Views
 pub mod Written

@@ -20,12 +20,9 @@ pub record ProgramFields : Type 0 where
   pub number : ℕ
   pub pid : ℕ
 
-abbrev pub program_fields : ℕ × ℕ → ProgramFields
-program_fields x = record { number = x.0; pid = x.1 }
-
 -- program_number 16; 3 reserved bits, PID 13
 unfoldable pub program : Front ProgramFields
-program = reads program_fields (
+program = reads (λ x. record { number = x.0; pid = x.1 }) (
     number 2 &
     low 2 13)
 
@@ -34,11 +31,8 @@ pub record PatFields : Type 0 where
   pub ts : ℕ
   pub programs : List ProgramFields
 
-abbrev pub pat_fields : LongFields × List ProgramFields → PatFields
-pat_fields x = record { ts = x.0.extension; programs = x.1 }
-
 unfoldable pub pat : Whole PatFields
-pat = whole_reads pat_fields (table_of (has_table 0x00) (to_end program))
+pat = whole_reads (λ x. record { ts = x.0.extension; programs = x.1 }) (table_of (has_table 0x00) (to_end program))
 
 -- ---- PMT: table_id 0x02, section 0 of 0, 2.4.4.8
 
@@ -47,12 +41,9 @@ pub record StreamFields : Type 0 where
   pub pid : ℕ
   pub info : List ℕ
 
-abbrev pub stream_fields : ℕ × (ℕ × List ℕ) → StreamFields
-stream_fields x = record { kind = x.0; pid = x.1.0; info = x.1.1 }
-
 -- stream_type 8; 3 reserved bits, elementary_PID 13; 4 reserved bits, ES_info_length 12 and a row of descriptors
 unfoldable pub stream : Front StreamFields
-stream = reads stream_fields (
+stream = reads (λ x. record { kind = x.0; pid = x.1.0; info = x.1.1 }) (
     number 1 &
     low 2 13 &
     sized_row)
@@ -87,12 +78,9 @@ pub record NetEntryFields : Type 0 where
   pub network : ℕ
   pub info : List ℕ
 
-abbrev pub net_entry_fields : ℕ × (ℕ × List ℕ) → NetEntryFields
-net_entry_fields x = record { ts = x.0; network = x.1.0; info = x.1.1 }
-
 -- transport_stream_id 16; original_network_id 16; 4 reserved bits, transport_descriptors_length 12 and a row
 unfoldable pub net_entry : Front NetEntryFields
-net_entry = reads net_entry_fields (
+net_entry = reads (λ x. record { ts = x.0; network = x.1.0; info = x.1.1 }) (
     number 2 &
     number 2 &
     sized_row)

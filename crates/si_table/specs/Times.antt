@@ -14,21 +14,15 @@ is_short n = n / 2 ^ 15 == 0
 unfoldable pub short_head : Front ℕ
 short_head = reads length_of (such is_short (number 2))
 
-abbrev pub tdt_fields : Unit {0} × TimeFields → TimeFields
-tdt_fields x = x.1
-
 -- table_id 8: 0x70; section_length 5 and the time
 unfoldable pub tdt : Whole TimeFields
-tdt = whole_reads tdt_fields (only (
+tdt = whole_reads (λ x. x.1) (only (
     fixed (number 1) 0x70 &
     sized short_head (only utc)))
 
 pub record TotFields : Type 0 where
   pub time : TimeFields
   pub info : List ℕ
-
-abbrev pub tot_fields : Unit {0} × (TimeFields × List ℕ) → TotFields
-tot_fields x = record { time = x.1.0; info = x.1.1 }
 
 -- the time; 4 reserved bits, descriptors_loop_length 12 and a row of descriptors; CRC_32, four bytes
 unfoldable pub tot_inside : Whole (TimeFields × List ℕ)
@@ -38,6 +32,6 @@ tot_inside = before 4 (only (
 
 -- table_id 8: 0x73; section_length and that many bytes. The CRC over all bytes is 0.
 unfoldable pub tot : Whole TotFields
-tot = checked fits_a_table (checked has_right_crc (whole_reads tot_fields (only (
+tot = checked fits_a_table (checked has_right_crc (whole_reads (λ x. record { time = x.1.0; info = x.1.1 }) (only (
     fixed (number 1) 0x73 &
     sized short_head tot_inside))))

@@ -1,12 +1,13 @@
 -- The spelling that the writers make: reserved bits are ones, the version is 0, and the section is number 0 of 0.
-use Rattle.std.specs.Prelude.{ℕ, ◌+◌, ◌*◌, ◌^◌, true, false, List, ◌++◌, length}
+use Rattle.std.specs.Prelude.{ℕ, ◌+◌, ◌*◌, ◌^◌, true, false, List, ◌++◌, length, ◌≤◌, IsSome}
 use Rattle.wire.specs.Number.{bytes_of, length_bytes}
 use Rattle.ts_crc.specs.Crc.{crc_of}
 use Rattle.section_form.specs.Written.{long_bytes, only_section}
 use Rattle.si_desc.specs.Written.{row_bytes}
 use Rattle.ssu_time.specs.UtcField.{TimeFields}
 use Rattle.ssu_time.specs.UtcTime.{utc_bytes}
-use Rattle.si_table.specs.Tables.{ProgramFields, StreamFields}
+use Rattle.si_table.specs.Tables.{ProgramFields, StreamFields, stream}
+use Rattle.wire.specs.Format.{to_end}
 
 -- 3 reserved bits and a PID
 abbrev pub pid_bytes : ℕ → List ℕ
@@ -86,3 +87,8 @@ tot_text t info =
 
 unfoldable pub tot_bytes : TimeFields → List ℕ → List ℕ
 tot_bytes t info = tot_text t info ++ bytes_of 4 (crc_of (tot_text t info))
+
+-- Whole streams of a PMT that is being written fill the bytes, and a section has room for them.
+pub record IsStreamRow (bytes : List ℕ) : Type 0 where
+  pub whole : IsSome ((to_end stream).of bytes)
+  pub room : length bytes ≤ 1008

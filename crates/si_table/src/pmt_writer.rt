@@ -28,9 +28,8 @@ pub struct PmtWriter {
 
 impl Model for PmtWriter {
     ghost use Rattle.wire.specs.Items.{items_of};
-    ghost use Rattle.si_table.specs.Rows.{IsStreamRow};
+    ghost use Rattle.si_table.specs.Written.{IsStreamRow, PmtDraft};
     ghost use Rattle.si_table.specs.Tables.{stream};
-    ghost use Rattle.si_table.specs.Written.{PmtDraft};
 
     ghost Value = { PmtDraft };
 

@@ -6,8 +6,8 @@ mod making;
 use flash_dev::FileFlash;
 use making::MadeFile;
 use ssu_io::{FolderShelf, RealSink, RealSource, Sink, StdSink};
-use ssu_status::{Command, Status, made_file};
-use ssu_tool::run;
+use ssu_status::{Command, Status};
+use ssu_tool::{command_of, made_file, run_spared};
 use std::alloc::{AllocError, Global};
 use std::fs::File;
 use std::os::unix::fs::FileTypeExt;
@@ -27,11 +27,17 @@ const HELP: &str = "usage: ssu FOLDER COMMAND ARGUMENTS
   boot          takes the image that boot takes in flash.bin into image.bin
   replay        replays air.ts to the loader of the box in box.toml, which installs an update in flash.bin
   air           puts the packets of air.ts through the script in script.toml into aired.ts
+  audit PID     checks the carousel on the PID in air.ts: whether all that have a group whole have one image of it
+  audit PID N   the same, with its notice on PID N
+  sample N      makes a broadcast of a number, 0 to 999999, and replays it to a box, all in memory
+
+format, boot and replay may end in `spares S`, with S from 1 to 255: S blocks of flash.bin are spares for failing ones, and one more
+is their map. The number is stored nowhere: give the same one each time. format forgets all replacements.
 
 Exit codes: 0 done or installed, 2 wrong words, 3 box.toml refused, 4 plan refused, 5 flash is foreign, 6 nothing found,
 7 incomplete, 8 bad module, 9 file absent, 10 read failed, 11 write failed, 12 flash failed, 13 records worn out,
 14 input too long, 15 out of memory, 16 image does not fit, 17 wrong geometry, 18 file could not be read, 19 unsettled,
-20 build refused.
+20 build refused, 21 audit refused.
 
 ssu --help and ssu --version print this text and the version.
 ";
@@ -66,7 +72,7 @@ fn status_of(error: io::Error) -> Status {
     }
 }
 
-/// Answers the words: `--help` and `--version` here, all others by `run` over the files of the folder.
+/// Answers the words: `--help` and `--version` here, all others by `run_spared` over the files of the folder.
 fn answer(rt: &(impl Files + Print + AllocGlobal), words: &[String]) -> Status {
     match words {
         [word] if word.as_str() == "--help" => printed(rt, HELP),
@@ -90,7 +96,7 @@ fn in_folder(
     rt: &(impl Files + Print + AllocGlobal),
     words: &[String],
 ) -> Result<Status, AllocError> {
-    let command = Command::parse(words);
+    let command = command_of(words);
     if command.is_none() {
         return on_files(rt, words, command);
     }
@@ -121,12 +127,12 @@ fn on_files(
     let folder = folder_of(words);
     let mut shelf = FolderShelf::new(rt, String::from_str(alloc, folder)?);
     let mut air = RealSource::new(rt, path(alloc, folder, "air.ts")?);
-    let mut flash = flash_of(rt, path(alloc, folder, "flash.bin")?, command);
+    let flash = flash_of(rt, path(alloc, folder, "flash.bin")?, command);
     let made_path = path(alloc, folder, made_file(words).as_str())?;
     let mut made = MadeFile::new(RealSink::new(rt, made_path.clone()?));
     let mut out = StdSink::new(rt);
-    let status = run(
-        alloc, words, &mut shelf, &mut air, &mut flash, &mut made, &mut out,
+    let (_, status) = run_spared(
+        alloc, words, &mut shelf, &mut air, flash, &mut made, &mut out,
     );
     if matches!(command, Some(Command::Blank(_))) && made.is_cut_short() {
         empty(rt, &made_path);

@@ -2,6 +2,10 @@
 
 ghost use Rattle.std.specs.Prelude.{◌≡◌, ◌≤◌, ◌∷◌, [], List, None, IfOk, OnErr, false};
 ghost use Rattle.std.specs.HashMap.{hash_map_len};
+ghost use Rattle.std.specs.Option.{option_map};
+ghost use Rattle.dsmcc_msg.specs.Block.{ddb as ddb_format};
+ghost use Rattle.dsmcc_msg.specs.View.{ddb_view};
+ghost use Rattle.section_form.specs.Section.{IsRight};
 ghost use Rattle.ssu_audit.specs.Calls.{Call};
 ghost use Rattle.ssu_audit.specs.Hearing.{answer_in_carousel, answer_to};
 ghost use Rattle.ssu_audit.specs.Standing.{IsUsable, Stands, StandsOnceCounted};
@@ -11,8 +15,9 @@ use crate::control::{hear_dii, hear_dsi};
 use crate::kept::Kept;
 use crate::key::BlockKey;
 use crate::notices::hear_notice;
-use crate::reading::{ddb_of, dii_of, dsi_of};
+use crate::reading::{ddb_of, ddb_of_right, dii_of, dsi_of};
 use audit_answer::AuditNo;
+use dsmcc_msg::Ddb;
 use ssu_io::NoMemory;
 use std::alloc::Global;
 use std::collections::HashMap;
@@ -75,12 +80,39 @@ impl Audit {
         ensures unchanged { (calls : List Call) → Stands calls self.old → OnErr result (Stands calls self.new) }
         ensures usable_still { OnErr result (IsUsable self.new) }
     {
-        self.hear_one(notice, section)
+        self.hear_one(notice, section, ddb_of(section))
     }
 
-    /// Hears a section.
-    fn hear_one(&mut self, notice: bool, section: &[u8]) -> Result<Option<AuditNo>, NoMemory>
+    /// Hears a right section: what `hear` does, without the time of a CRC where the section is a DDB.
+    ///
+    /// A section that a hearer gives out is right.
+    ///
+    /// # Errors
+    ///
+    /// `NoMemory` where memory ran out. The audit is then as it was.
+    pub fn hear_right(&mut self, notice: bool, section: &[u8]) -> Result<Option<AuditNo>, NoMemory>
         requires usable { IsUsable self.old }
+        requires right { IsRight section.now }
+        ensures answer { (calls : List Call) → Stands calls self.old
+            → IfOk result (λ answer. answer ≡ answer_to calls (record { notice = notice; section = section.now })) }
+        ensures stands { (calls : List Call) → Stands calls self.old
+            → IfOk result (λ answer. answer ≡ None → Stands (record { notice = notice; section = section.now } ∷ calls) self.new) }
+        ensures usable { IfOk result (λ answer. answer ≡ None → IsUsable self.new) }
+        ensures unchanged { (calls : List Call) → Stands calls self.old → OnErr result (Stands calls self.new) }
+        ensures usable_still { OnErr result (IsUsable self.new) }
+    {
+        self.hear_one(notice, section, ddb_of_right(section))
+    }
+
+    /// Hears a section, with the block that it is.
+    fn hear_one(
+        &mut self,
+        notice: bool,
+        section: &[u8],
+        block: Option<Ddb<'_>>,
+    ) -> Result<Option<AuditNo>, NoMemory>
+        requires usable { IsUsable self.old }
+        requires block { option_map ddb_view block ≡ ddb_format.of section.now }
         ensures answer { (calls : List Call) → Stands calls self.old
             → IfOk result (λ answer. answer ≡ answer_to calls (record { notice = notice; section = section.now })) }
         ensures stands { (calls : List Call) → Stands calls self.old
@@ -92,14 +124,19 @@ impl Audit {
             self.heard = self.heard.saturating_add(1);
             return Ok(None);
         }
-        let answer = self.hear_in_carousel(section)?;
+        let answer = self.hear_in_carousel(section, block)?;
         self.heard = self.heard.saturating_add(1);
         Ok(answer)
     }
 
     /// Keeps what a section of the carousel says first. It is not counted.
-    fn hear_in_carousel(&mut self, section: &[u8]) -> Result<Option<AuditNo>, NoMemory>
+    fn hear_in_carousel(
+        &mut self,
+        section: &[u8],
+        block: Option<Ddb<'_>>,
+    ) -> Result<Option<AuditNo>, NoMemory>
         requires few { hash_map_len self.old.blocks ≤ 65536 }
+        requires block { option_map ddb_view block ≡ ddb_format.of section.now }
         ensures answer { (calls : List Call) → Stands calls self.old
             → IfOk result (λ answer. answer ≡ answer_in_carousel calls section.now) }
         ensures stands { (calls : List Call) → Stands calls self.old
@@ -107,7 +144,7 @@ impl Audit {
         ensures unchanged { (calls : List Call) → Stands calls self.old → OnErr result (Stands calls self.new) }
         ensures heard { self.new.heard ≡ self.old.heard }
     {
-        if let Some(ddb) = ddb_of(section) {
+        if let Some(ddb) = block {
             return hear_block(&mut self.blocks, self.alloc, self.heard, &ddb);
         }
         if let Some(dii) = dii_of(section) {

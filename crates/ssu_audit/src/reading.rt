@@ -5,6 +5,7 @@ ghost use Rattle.std.specs.Option.{option_map};
 ghost use Rattle.dsmcc_msg.specs.Block.{ddb};
 ghost use Rattle.dsmcc_msg.specs.Control.{dii, dii_message, dsi};
 ghost use Rattle.dsmcc_msg.specs.View.{ddb_view};
+ghost use Rattle.section_form.specs.Section.{IsRight};
 ghost use Rattle.ssu_audit.specs.Said.{message_of as message_of_section};
 
 use dsmcc_msg::{Ddb, Dii, Dsi};
@@ -15,6 +16,14 @@ pub(crate) fn ddb_of(section: &[u8]) -> Option<Ddb<'_>>
     ensures { option_map ddb_view result ≡ ddb.of section.now }
 {
     Ddb::read(section)
+}
+
+/// The DDB that a right section is, without the time of a CRC.
+pub(crate) fn ddb_of_right(section: &[u8]) -> Option<Ddb<'_>>
+    requires { IsRight section.now }
+    ensures { option_map ddb_view result ≡ ddb.of section.now }
+{
+    Ddb::read_right(section)
 }
 
 /// The DII that the section is.

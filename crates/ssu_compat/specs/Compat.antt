@@ -44,12 +44,9 @@ entry = reads entry_fields (
     number 1 &
     sized (number 1) inside_entry)
 
-abbrev pub counted_entries : ℕ × List EntryFields → List EntryFields
-counted_entries x = x.1
-
 -- descriptorCount 16 and that many entries
 unfoldable pub entries : Whole (List EntryFields)
-entries = whole_reads counted_entries (
+entries = whole_reads (λ x. x.1) (
     number 2 then λ count.
     exactly count entry)
 

@@ -1,7 +1,6 @@
 -- The reader of the format reads what is spelled so, and nothing else.
 use Rattle.wire.specs.Exact.{IsFront, IsWhole}
-use Rattle.wire.proofs.Laws.{pair_exact, sized_exact, then_exact, reads_exact}
-use Rattle.wire.proofs.Laws.{rest_exact, kept_exact, exactly_exact}
+use Rattle.wire.proofs.Laws.{pair_exact, sized_exact, then_exact, reads_exact, rest_exact, kept_exact, exactly_exact}
 use Rattle.wire.proofs.Numbers.{number1, number2, number3}
 use Rattle.ssu_compat.specs.Compat.{sub_descriptor, inside_entry, entry_fields, entry}
 

@@ -13,7 +13,7 @@ use Rattle.ssu_group.specs.Plan.{blocks_of, module_at, laid_out, size_of, block_
 use Rattle.dsmcc_msg.specs.Control.{DiiFields}
 use Rattle.ssu_group.specs.declared.unusable.Unusable.{Unusable}
 use Rattle.ssu_group.specs.declared.unusable.Unusable.TheVariants.{Compressed, NoBlockSize, TooManyBlocks, TwiceModule, TooLong, Empty}
-use Rattle.ssu_group.specs.Refusal.{id_of, has_too_many, first_compressed, is_no_block_size, first_too_many, first_twice, StoodEarlier, bytes_of_module, total_of, where_so, refusal}
+use Rattle.ssu_group.specs.Refusal.{id_of, has_too_many, first_compressed, is_no_block_size, first_too_many, first_twice, StoodEarlier, total_of, where_so, refusal}
 
 pub laid_joined : (b at first : ℕ) (ms : List ModuleFields) → are_joined b at first (laid_out b at first ms) ≡ true
 unfolding laid_out are_joined
@@ -27,7 +27,7 @@ laid_bytes b at first [] = refl
 laid_bytes b at first (m ∷ ms) =
     sum_by-cons size_of (module_at b at first m) (laid_out b (at + m.size) (first + blocks_of b m) ms)
     ∙ ap (λ (n : ℕ). m.size + n) (laid_bytes b (at + m.size) (first + blocks_of b m) ms)
-    ∙ sym (sum_by-cons bytes_of_module m ms)
+    ∙ sym (sum_by-cons (λ (m : ModuleFields). m.size) m ms)
 
 pub laid_blocks : (b at first : ℕ) (ms : List ModuleFields) → sum_by block_count (laid_out b at first ms) ≡ sum_by (blocks_of b) ms
 unfolding laid_out
@@ -191,7 +191,7 @@ placed : (b at first : ℕ) (before : List ModuleFields) (m : ModuleFields) (beh
 unfolding laid_out
 placed b at first [] m behind = moved b at (at + 0) first (first + 0) m (omega arith) (omega arith)
 placed b at first (n ∷ ns) m behind =
-    let bytes : total_of (n ∷ ns) ≡ n.size + total_of ns = sum_by-cons bytes_of_module n ns in
+    let bytes : total_of (n ∷ ns) ≡ n.size + total_of ns = sum_by-cons (λ (m : ModuleFields). m.size) n ns in
     let blocks : sum_by (blocks_of b) (n ∷ ns) ≡ blocks_of b n + sum_by (blocks_of b) ns = sum_by-cons (blocks_of b) n ns in
     placed b (at + n.size) (first + blocks_of b n) ns m behind
     ∙ moved b ((at + n.size) + total_of ns) (at + total_of (n ∷ ns)) ((first + blocks_of b n) + sum_by (blocks_of b) ns) (first + sum_by (blocks_of b) (n ∷ ns)) m

@@ -1,5 +1,7 @@
 -- What sections carry of a group. Lists of sections have the newest first.
-use Rattle.std.specs.Prelude.{◌≡◌, ℕ, zero, suc, Bool, true, not, ◌==◌, List, [], ◌++◌, take, drop, Option, Some, None, is_some, unwrap_or, if◌then◌else◌}
+use Rattle.std.specs.Prelude.{◌≡◌, ℕ, zero, suc, Bool, true, false, not, ◌==◌, List, []}
+use Rattle.std.specs.Prelude.{◌++◌, take, drop, Option, Some, None, is_some, unwrap_or}
+use Rattle.std.specs.Prelude.{if◌then◌else◌}
 use Rattle.std.specs.List.{find}
 use Rattle.std.specs.Option.{option_and_then}
 use Rattle.ts_crc.specs.Crc.{crc_of}
@@ -8,6 +10,7 @@ use Rattle.dsmcc_msg.specs.Block.{DdbFields, ddb}
 use Rattle.ssu_group.specs.declared.module_plan.ModulePlan.{ModulePlan}
 use Rattle.ssu_group.specs.declared.places.Place.{Place}
 use Rattle.ssu_group.specs.declared.group_plan.GroupPlan.{GroupPlan}
+use Rattle.ssu_group.specs.declared.wrong.Wrong.{Wrong}
 use Rattle.ssu_group.specs.Place.{place_of}
 use Rattle.ssu_group.specs.Map.{missing_below}
 
@@ -48,9 +51,19 @@ crc_is bytes (Some crc) = crc_of bytes == crc
 abbrev pub is_right : List ℕ → ModulePlan → Bool
 is_right image m = crc_is (module_bytes image m) m.crc
 
+abbrev pub is_wrong : List ℕ → ModulePlan → Bool
+is_wrong image m = not (is_right image m)
+
 -- the first module, in the order of the DII, that has not the CRC of its descriptor
 unfoldable pub wrong_module : List ModulePlan → List ℕ → Option ModulePlan
-wrong_module modules image = find (λ m. not (is_right image m)) modules
+wrong_module modules image = find (is_wrong image) modules
+
+-- This module has not the CRC that its descriptor gives.
+pub record IsWrong (image : List ℕ) (m : ModulePlan) (wrong : Wrong) : Type 0 where
+  pub own_id : wrong.id ≡ m.id
+  pub wanted : m.crc ≡ Some wrong.want
+  pub has : wrong.found ≡ crc_of (module_bytes image m)
+  pub differs : is_right image m ≡ false
 
 -- The sections carry the group whole, as this image: each place is filled, the image joins the bytes of the first DDB
 -- that fills each, and each module has the CRC that its descriptor gives.
@@ -58,3 +71,13 @@ pub record CarriesWhole (plan : GroupPlan) (sections : List (List ℕ)) (image :
   pub filled : missing_places plan sections ≡ 0
   pub joins : image ≡ carried_image plan sections
   pub right : wrong_module plan.modules.items image ≡ None
+
+-- The sections fill all places of the plan, and this is the first module, in the order of the DII, that has not the CRC of
+-- its descriptor: its id, that CRC, and the CRC of its bytes.
+pub record HasWrong (plan : GroupPlan) (sections : List (List ℕ)) (id want found : ℕ) : Type 0 where
+  pub filled : missing_places plan sections ≡ 0
+  pub module_plan : ModulePlan
+  pub first : wrong_module plan.modules.items (carried_image plan sections) ≡ Some module_plan
+  pub own_id : id ≡ module_plan.id
+  pub wanted : module_plan.crc ≡ Some want
+  pub has : found ≡ crc_of (module_bytes (carried_image plan sections) module_plan)

@@ -39,11 +39,8 @@ pub record StoodEarlier (earlier : List ℕ) (ms : List ModuleFields) (id : ℕ)
   pub own : part.id ≡ id
   pub stood : list_any (λ other. other == id) (earlier ++ map id_of before) ≡ true
 
-abbrev pub bytes_of_module : ModuleFields → ℕ
-bytes_of_module m = m.size
-
 abbrev pub total_of : List ModuleFields → ℕ
-total_of ms = sum_by bytes_of_module ms
+total_of ms = sum_by (λ m. m.size) ms
 
 abbrev pub where_so : Bool → Unusable → Option Unusable
 where_so fact why = if fact then Some why else None

@@ -10,6 +10,7 @@ mod module_passes;
 mod module_plan;
 mod places;
 mod unusable;
+mod wrong;
 
 pub use block_map::BlockMap;
 pub use group_plan::GroupPlan;
@@ -17,3 +18,4 @@ pub use laws::{modules_lie_in_order, places_fill_image, twice_is_the_first_that_
 pub use module_plan::ModulePlan;
 pub use places::Place;
 pub use unusable::Unusable;
+pub use wrong::Wrong;

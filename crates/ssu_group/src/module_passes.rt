@@ -4,7 +4,10 @@ ghost use Rattle.std.specs.Prelude.{◌≡◌, ◌≤◌, length, []};
 ghost use Rattle.std.specs.Option.{is_some};
 ghost use Rattle.si_desc.specs.Descriptors.{first_body};
 ghost use Rattle.ssu_group.specs.Plan.{module_crc, compressed_module_tag};
-ghost use Rattle.ssu_group.specs.Refusal.{first_compressed as first_compressed_of, first_too_many as first_too_many_of, first_twice as first_twice_of, total_of as sum_of_sizes};
+ghost use Rattle.ssu_group.specs.Refusal.{first_compressed as first_compressed_of};
+ghost use Rattle.ssu_group.specs.Refusal.{first_too_many as first_too_many_of};
+ghost use Rattle.ssu_group.specs.Refusal.{first_twice as first_twice_of};
+ghost use Rattle.ssu_group.specs.Refusal.{total_of as sum_of_sizes};
 
 use arrayvec::ArrayVec;
 use dsmcc_msg::Dii;

@@ -1,3 +1,4 @@
+pub mod AuditLines
 pub mod Digits
 pub mod LevelLines
 pub mod Lines

@@ -68,7 +68,7 @@ module _ (in_bank : Bool) (me : Receiver) (left left_after : Option (List ℕ)) 
           subst (λ (i : List ℕ). BootOf g y (record { head = record_after before.head chosen; image = i })) bytes
               (subst (λ (o : Chosen). BootOf g y (record { head = record_after before.head o; image = ends.image })) group ((ends.installs before boot).commits.boot)),
         )
-    verdict_is (Nothing level) ends = let comes = ends.0 in absurd (not_at_end comes.hears.taken comes.hears.takes comes.end comes.hears.now.0)
+    verdict_is (Nothing level) ends = let comes = ends.0 in absurd (not_at_end comes.hears.taken comes.hears.takes comes.end comes.hears.now.0.0)
     verdict_is (Incomplete c missing) ends = let comes = ends.0 in absurd (not_at_end comes.hears.taken comes.hears.takes comes.end comes.hears.now.0.0)
     verdict_is (BadModule id want found) ends =
         let comes = ends.0 in

@@ -1,8 +1,8 @@
 -- What the collector stands for, with one section more.
-use Rattle.std.proofs.Common.{◌≡◌, inl, inr, ⊎_elim, ℕ, ◌<◌, ◌≤◌, List, [], ◌∷◌, Option, Some, None, refl, sym, ap, subst, ◌∙◌, arith}
+use Rattle.std.proofs.Common.{◌≡◌, inl, inr, ⊎_elim, ℕ, ◌<◌, ◌≤◌, List, [], ◌∷◌, Option, Some, None, true, refl, sym, ap, subst, ◌∙◌, arith}
 use Rattle.std.specs.Prelude.{IsSome, IfNone, IfSome, is_some}
 use Rattle.flash_dev.specs.declared.device.Flash.{Ghosts as FlashGhosts}
-use Rattle.flash_bank.specs.Bank.{current_of, geometry_of}
+use Rattle.flash_bank.specs.Bank.{current_of, geometry_of, is_begun}
 use Rattle.flash_bank.specs.Leaving.{Installs, KeepsBoot}
 use Rattle.flash_bank.specs.Record.{next_record}
 use Rattle.flash_bank.specs.declared.bank.Bank.{Bank}
@@ -66,6 +66,10 @@ pub begun_seen : (me : Receiver) (heard : List Heard) (answer : Option Verdict) 
 begun_seen me heard None never undecided = undecided
 begun_seen me heard (Some v) never undecided = absurd never
 
+-- the law of a stage in the bank: it asks for a bank that was begun
+abbrev pub Begins : {S : Type 0} → StageGhosts S → Type 0
+Begins {S} s = s.IN_BANK ≡ true → (stage : S) (bank : Bank) → s.ready stage bank → is_begun bank ≡ true
+
 module _ {S F : Type 0} (s : StageGhosts S) (f : FlashGhosts F) where
   -- ---- the same plan
 
@@ -112,15 +116,16 @@ module _ {S F : Type 0} (s : StageGhosts S) (f : FlashGhosts F) where
       };
       works = λ choice is. absurd (no_choice me (item ∷ heard) choice none is);
       told = λ tells choice is. absurd (no_choice me (item ∷ heard) choice none is);
+      begun = g.begun;
     };
   }
 
   -- a choice stands, and the stage has gone on with it
-  pub choice_collects : (me : Receiver) (item : Heard) (heard : List Heard) (old new : Collector S) (flash flash' : F) (choice : Choice) → Stands me (item ∷ heard) new.route
+  pub choice_collects : Begins s → (me : Receiver) (item : Heard) (heard : List Heard) (old new : Collector S) (flash flash' : F) (choice : Choice) → Stands me (item ∷ heard) new.route
       → IsChoice me (item ∷ heard) choice → Gathers s f me heard old flash → SameBank old.bank new.bank → s.most new.stage ≡ s.most old.stage → new.choices ≡ beginnings me (item ∷ heard)
       → new.choices ≤ 16 → Works s f choice.plan new.stage new.bank flash' → IsOpen me (item ∷ heard) → HasFilled s choice.plan (window me (item ∷ heard)) new.stage
       → (f.tells → HoldsFilling s choice.plan (window me (item ∷ heard)) new.stage new.bank (f.contents flash')) → Collects s f me (item ∷ heard) new flash'
-  choice_collects me item heard old new flash flash' choice stands is g bank most counted few works undecided filled holds = record {
+  choice_collects law me item heard old new flash flash' choice stands is g bank most counted few works undecided filled holds = record {
     stands = stands;
     gathers = record {
       len = g.len ∙ sym (len_same old.bank new.bank bank);
@@ -137,6 +142,7 @@ module _ {S F : Type 0} (s : StageGhosts S) (f : FlashGhosts F) where
       };
       works = λ other own. works_for choice.plan other.plan new.stage new.bank flash' (one_choice me (item ∷ heard) choice other is own).plan works;
       told = λ tells other own. holds_for choice.plan other.plan (window me (item ∷ heard)) new.stage new.bank (f.contents flash') (one_choice me (item ∷ heard) choice other is own).plan (holds tells);
+      begun = λ staged some. law staged new.stage new.bank works.ready;
     };
   }
 
@@ -166,9 +172,9 @@ module _ {S F : Type 0} (s : StageGhosts S) (f : FlashGhosts F) (me : Receiver) 
   few_before = let all = ahead.gathers.knows.counted in let most = ahead.gathers.knows.few in omega (arith, all, most)
 
   -- it is no block of the choice
-  pub passed_collects : window me (item ∷ heard) ≡ window me heard → Collects s f me (item ∷ heard) c flash
-  passed_collects same =
-      choice_collects s f me item heard c c flash flash choice ahead.stands is ahead.gathers (bank_itself c.bank) refl count ahead.gathers.knows.few (ahead.gathers.works choice was)
+  pub passed_collects : Begins s → window me (item ∷ heard) ≡ window me heard → Collects s f me (item ∷ heard) c flash
+  passed_collects law same =
+      choice_collects s f law me item heard c c flash flash choice ahead.stands is ahead.gathers (bank_itself c.bank) refl count ahead.gathers.knows.few (ahead.gathers.works choice was)
       (open_more me item heard ahead.gathers.knows.undecided
       (missing_decides me (item ∷ heard) choice is
       (subst (λ (w : List (List ℕ)). 1 ≤ missing_places choice.plan w) (sym same)
@@ -179,12 +185,12 @@ module _ {S F : Type 0} (s : StageGhosts S) (f : FlashGhosts F) (me : Receiver) 
 
   module _ (joins : window me (item ∷ heard) ≡ item.section ∷ window me heard) where
     -- it was taken, and a place is missing still
-    pub taken_collects : (stage' : S) (bank' : Bank) (flash' : F) → Works s f choice.plan stage' bank' flash' → SameBank c.bank bank' → s.most stage' ≡ s.most c.stage
+    pub taken_collects : Begins s → (stage' : S) (bank' : Bank) (flash' : F) → Works s f choice.plan stage' bank' flash' → SameBank c.bank bank' → s.most stage' ≡ s.most c.stage
         → HasFilled s choice.plan (item.section ∷ window me heard) stage' × (1 ≤ missing_places choice.plan (item.section ∷ window me heard))
         → (f.tells → HoldsFilling s choice.plan (item.section ∷ window me heard) stage' bank' (f.contents flash'))
         → Collects s f me (item ∷ heard) (record { bank = bank'; stage = stage'; route = c.route; choices = c.choices }) flash'
-    taken_collects stage' bank' flash' works bank most filled holds =
-        choice_collects s f me item heard c (record { bank = bank'; stage = stage'; route = c.route; choices = c.choices }) flash flash' choice ahead.stands is ahead.gathers bank most count ahead.gathers.knows.few works
+    taken_collects law stage' bank' flash' works bank most filled holds =
+        choice_collects s f law me item heard c (record { bank = bank'; stage = stage'; route = c.route; choices = c.choices }) flash flash' choice ahead.stands is ahead.gathers bank most count ahead.gathers.knows.few works
         (open_more me item heard ahead.gathers.knows.undecided
         (missing_decides me (item ∷ heard) choice is (subst (λ (w : List (List ℕ)). 1 ≤ missing_places choice.plan w) (sym joins) filled.1)
         (not_too_many me item heard not_chosen)))
@@ -252,6 +258,7 @@ module _ {S F : Type 0} (s : StageGhosts S) (f : FlashGhosts F) (me : Receiver) 
     knows = record { undecided = g.knows.undecided; counted = g.knows.counted; few = g.knows.few; planned = g.knows.planned; filled = g.knows.filled };
     works = g.works;
     told = g.told;
+    begun = g.begun;
   }
 
   pub goes_ahead : (item : Heard) (c : Collector S) (route : Route) (flash : F) (software : SwId) (what answered : Change) → Collects s f me heard c flash → software ≡ (current_of c.bank).software

@@ -63,6 +63,7 @@ fresh_follows s f file loader flash fresh lent next =
           };
           works = λ choice is. absurd (none_chosen me choice is);
           told = λ tells choice is. absurd (none_chosen me choice is);
+          begun = λ staged some. let none = fresh.none in absurd (omega (arith, none, some));
         };
       };
     }

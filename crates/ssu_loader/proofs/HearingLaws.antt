@@ -1,5 +1,5 @@
 -- The sections of one packet, one after the other.
-use Rattle.std.proofs.Common.{◌≡◌, inl, inr, ⊎_elim, ℕ, zero, suc, ◌+◌, ◌≤◌, List, [], ◌∷◌, ◌++◌, map, reverse, take, drop, length, Option, Some, None, refl, sym, ap, subst, ◌∙◌, arith, append_assoc}
+use Rattle.std.proofs.Common.{◌≡◌, inl, inr, ⊎_elim, ℕ, zero, suc, ◌+◌, ◌≤◌, List, [], ◌∷◌, ◌++◌, map, reverse, take, drop, length, Option, Some, None, true, refl, sym, ap, subst, ◌∙◌, arith, append_assoc}
 use Rattle.std.proofs.lemmas.List.{map-append, reverse-append, take-append-drop}
 use Rattle.std.specs.List.{slice_get}
 use Rattle.std.specs.Prelude.{IsTrue}
@@ -8,8 +8,10 @@ use Rattle.flash_dev.specs.Moments.{LeavesOnly}
 use Rattle.flash_dev.proofs.Moments.{joined, weaker}
 use Rattle.flash_stage.specs.declared.stage.Stage.{Ghosts as StageGhosts}
 use Rattle.flash_bank.specs.Bank.{Fits, IsLent, current_of, geometry_of}
+use Rattle.flash_bank.specs.Layout.{Geometry}
 use Rattle.flash_bank.specs.Leaving.{Installs, KeepsBoot}
 use Rattle.flash_bank.specs.Record.{next_record}
+use Rattle.flash_bank.proofs.BankLemmas.{begun_gone}
 use Rattle.flash_bank.proofs.LeavingLemmas.{keeps_boot_joined, keeps_boot_same}
 use Rattle.flash_bank.specs.declared.bank.Bank.{Bank}
 use Rattle.flash_bank.specs.declared.record.Record.{Record}
@@ -27,13 +29,15 @@ use Rattle.ssu_route.specs.declared.choice.Choice.{Choice}
 use Rattle.ssu_loader.specs.declared.collector.Collector.{Collector}
 use Rattle.ssu_loader.specs.Collecting.{BeginsTooMany, Collects, IsUsable, StopsBefore}
 use Rattle.ssu_loader.specs.Decisions.{IsOpen, Reaches, TooMany, Whole, Wrong}
-use Rattle.ssu_loader.specs.Leaving.{Ends, GoesOn, IfUnsettled, InstallsChosen, SectionsLeave}
+use Rattle.ssu_loader.specs.Leaving.{Ends, GoesOn, IfBadModule, IfUnsettled, InstallsChosen, SectionsLeave}
+use Rattle.ssu_loader.specs.Storing.{HasNoPrev}
 use Rattle.ssu_loader.proofs.KeepingLaws.{installs_joined, installs_moved, leaves_moved}
 use Rattle.ssu_loader.proofs.LeftLaws.{left_now}
 use Rattle.ssu_route.specs.Windows.{beginnings, change_at, is_one_too_many}
 use Rattle.ssu_loader.specs.Verdicts.{IsFilled, IsSeen}
 use Rattle.ssu_loader.proofs.ChoiceLaws.{began_before, begun_more}
 use Rattle.ssu_loader.proofs.DecisionLaws.{decided_now, reaches_more}
+use Rattle.ssu_loader.proofs.WrongLaws.{wrong_began}
 
 -- ---- more sections come
 
@@ -264,6 +268,21 @@ module _ {S F : Type 0} (s : StageGhosts S) (f : FlashGhosts F) where
           collector = mid;
           collects = subst (λ (flash : F). Collects s f me (earlier heard) mid flash) (sym (same many)) before_it;
         }
+
+    -- where a module is wrong with the next section, what boot took before is gone
+    pub heard_no_prev : s.IN_BANK ≡ true → f.tells → (me : Receiver) (heard : List Heard) → Collects s f me heard old before → (v : Verdict)
+        → Ends me (heard_on pid section ∷ earlier heard) mid.bank (f.contents between) (f.contents now) v → IfBadModule (Some v) (HasNoPrev (geometry_of old.bank) (f.contents now))
+    heard_no_prev staged tells me heard col (Installed chosen) ends = tt
+    heard_no_prev staged tells me heard col (Nothing level) ends = tt
+    heard_no_prev staged tells me heard col (Incomplete chosen count) ends = tt
+    heard_no_prev staged tells me heard col Unsettled ends = tt
+    heard_no_prev staged tells me heard col (BadModule id want found) ends =
+        let before_it = sofar.collects me heard col in
+        let wrong = decided_now me (heard_on pid section) (earlier heard) (Wrong id want found) before_it.gathers.knows.undecided ends.0 in
+        let began = wrong_began me (heard_on pid section) (earlier heard) id want found wrong in
+        let count = before_it.gathers.knows.counted in
+        let gone = begun_gone mid.bank (f.contents between) (before_it.gathers.lent.fits tells) (before_it.gathers.begun staged (omega (arith, count, began))) in
+        subst (λ (g : Geometry). HasNoPrev g (f.contents now)) sofar.bank.geometry (λ b from. gone b (ends.1.keeps.prev b from))
 
     module _ (tells : f.tells) (me : Receiver) (heard : List Heard) where
       -- a decision at the next section

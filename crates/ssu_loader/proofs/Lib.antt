@@ -19,3 +19,4 @@ pub mod PacketLaws
 pub mod FreshLaws
 pub mod UnlessLaws
 pub mod StoringLaws
+pub mod WrongLaws

@@ -9,12 +9,12 @@ use Rattle.flash_stage.specs.declared.stage.Stage.{Ghosts as StageGhosts}
 use Rattle.flash_stage.proofs.LeavingLaws.{bank_itself, banks_joined}
 use Rattle.ssu_group.specs.declared.group_plan.GroupPlan.{GroupPlan}
 use Rattle.ssu_group.specs.declared.module_plan.ModulePlan.{ModulePlan}
-use Rattle.ssu_group.specs.Carried.{carried_image, is_right}
+use Rattle.ssu_group.specs.Carried.{carried_image, is_right, IsWrong, is_wrong}
 use Rattle.ssu_group.specs.Map.{missing_below}
 use Rattle.ssu_group.proofs.MapLaws.{missing_same}
 use Rattle.ssu_loader.specs.Collecting.{HasFilled, HoldsFilling, Works}
-use Rattle.ssu_loader.specs.declared.wrong.Wrong.{Wrong}
-use Rattle.ssu_loader.specs.Settling.{IsWrongOf, Stays, is_wrong}
+use Rattle.ssu_group.specs.declared.wrong.Wrong.{Wrong}
+use Rattle.ssu_loader.specs.Settling.{Stays}
 
 module _ {S F : Type 0} (s : StageGhosts S) (f : FlashGhosts F) where
   -- ---- what is only read
@@ -80,22 +80,22 @@ drop_all p (x ∷ xs) (suc k) past = drop_all p xs k (omega (arith, past))
 
 -- it is right, and the search goes on
 pub looked_on : (image : List ℕ) (modules : List ModulePlan) (k : ℕ) (d : ModulePlan) (answer : Option Wrong) → k < length modules → answer ≡ None
-    → MatchOption answer (is_right image (get_or modules k d) ≡ true) (λ wrong. IsWrongOf image (get_or modules k d) wrong)
+    → MatchOption answer (is_right image (get_or modules k d) ≡ true) (λ wrong. IsWrong image (get_or modules k d) wrong)
     → find (is_wrong image) (drop (k + 1) modules) ≡ find (is_wrong image) (drop k modules)
 looked_on image modules k d None below none right = drop_next (is_wrong image) modules k d below (ap not right)
 looked_on image modules k d (Some wrong) below none right = absurd cc
 
 -- it is wrong
 pub looked_at : (image : List ℕ) (modules : List ModulePlan) (k : ℕ) (d : ModulePlan) (answer : Option Wrong) (wrong : Wrong) → k < length modules → answer ≡ Some wrong
-    → MatchOption answer (is_right image (get_or modules k d) ≡ true) (λ w. IsWrongOf image (get_or modules k d) w)
+    → MatchOption answer (is_right image (get_or modules k d) ≡ true) (λ w. IsWrong image (get_or modules k d) w)
     → find (is_wrong image) (drop k modules) ≡ find (is_wrong image) modules
-    → (m : ModulePlan) × (find (is_wrong image) modules ≡ Some m) × IsWrongOf image m wrong
+    → (m : ModulePlan) × (find (is_wrong image) modules ≡ Some m) × IsWrong image m wrong
 looked_at image modules k d None wrong below some is searched = absurd cc
 looked_at image modules k d (Some w) wrong below some is searched =
     let same : w ≡ wrong = cc in (
       get_or modules k d,
       sym searched ∙ drop_found (is_wrong image) modules k d below (ap not is.differs),
-      subst (λ (v : Wrong). IsWrongOf image (get_or modules k d) v) same is,
+      subst (λ (v : Wrong). IsWrong image (get_or modules k d) v) same is,
     )
 
 -- all were looked at

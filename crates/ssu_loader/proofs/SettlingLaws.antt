@@ -15,15 +15,14 @@ use Rattle.flash_stage.specs.Outline.{Outline, group_text, module_text, outline_
 use Rattle.flash_stage.proofs.TextLaws.{carried_module, joined_same, module_below}
 use Rattle.ssu_group.specs.declared.group_plan.GroupPlan.{GroupPlan}
 use Rattle.ssu_group.specs.declared.module_plan.ModulePlan.{ModulePlan}
-use Rattle.ssu_group.specs.Carried.{carried_image, crc_is, filling, is_right, missing_places, module_bytes, wrong_module}
+use Rattle.ssu_group.specs.Carried.{carried_image, crc_is, filling, is_right, missing_places, module_bytes, wrong_module, HasWrong, IsWrong, is_wrong}
 use Rattle.ssu_group.specs.Map.{missing_below}
 use Rattle.ssu_group.proofs.MapLaws.{all_marked, missing_same}
 use Rattle.ssu_route.specs.declared.choice.Choice.{Choice}
-use Rattle.ssu_loader.specs.declared.wrong.Wrong.{Wrong}
+use Rattle.ssu_group.specs.declared.wrong.Wrong.{Wrong}
 use Rattle.ssu_answer.specs.declared.verdict.Verdict.{Verdict}
 use Rattle.ssu_answer.specs.declared.verdict.Verdict.TheVariants.{Installed, Nothing, Incomplete, BadModule, Unsettled}
-use Rattle.ssu_loader.specs.Decisions.{HasWrong}
-use Rattle.ssu_loader.specs.Settling.{InstallsWhole, IsWrongOf, Settles, SettlingLeaves, is_wrong}
+use Rattle.ssu_loader.specs.Settling.{InstallsWhole, Settles, SettlingLeaves}
 use Rattle.ssu_loader.proofs.FillingLaws.{text_filled}
 use Rattle.ssu_loader.proofs.KeepingLaws.{installs_joined, installs_moved, leaves_moved}
 
@@ -64,12 +63,12 @@ module_staged plan has m whole among k below =
 -- the answer to a module that has a CRC
 pub wrong_answer : (image : List ℕ) (m : ModulePlan) (text : List ℕ) (want found : ℕ) (answer : Option Wrong) → m.crc ≡ Some want → found ≡ crc_of text → module_bytes image m ≡ text
     → MatchOption answer (found ≡ want) (λ wrong. (wrong ≡ record { id = m.id; want = want; found = found }) × (found ≡ want → ⊥))
-    → MatchOption answer (is_right image m ≡ true) (λ wrong. IsWrongOf image m wrong)
+    → MatchOption answer (is_right image m ≡ true) (λ wrong. IsWrong image m wrong)
 wrong_answer image m text want found None crc has is same =
     ap (crc_is (module_bytes image m)) crc
     ∙ eq-eqb (crc_of (module_bytes image m)) want (ap crc_of is ∙ sym has ∙ same)
 wrong_answer image m text want found (Some wrong) crc has is differs =
-    subst (λ (w : Wrong). IsWrongOf image m w) (sym differs.0) (record {
+    subst (λ (w : Wrong). IsWrong image m w) (sym differs.0) (record {
       own_id = refl;
       wanted = crc;
       has = has ∙ ap crc_of (sym is);
@@ -130,7 +129,7 @@ answer_moved choice window old new x y (Some verdict) same settles = settles_mov
 
 -- a module is wrong
 pub has_wrong : (choice : Choice) (window : List (List ℕ)) (m : ModulePlan) (wrong : Wrong) → missing_places choice.plan window ≡ 0
-    → find (is_wrong (carried_image choice.plan window)) choice.plan.modules.items ≡ Some m → IsWrongOf (carried_image choice.plan window) m wrong
+    → find (is_wrong (carried_image choice.plan window)) choice.plan.modules.items ≡ Some m → IsWrong (carried_image choice.plan window) m wrong
     → HasWrong choice.plan window wrong.id wrong.want wrong.found
 unfolding wrong_module
 has_wrong choice window m wrong filled first is = record {

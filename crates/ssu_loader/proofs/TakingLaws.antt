@@ -27,10 +27,10 @@ use Rattle.ssu_answer.specs.declared.verdict.Verdict.{Verdict}
 use Rattle.ssu_answer.specs.declared.verdict.Verdict.TheVariants.{Installed, Nothing, Incomplete, BadModule, Unsettled}
 use Rattle.ssu_loader.specs.Decisions.{IsOpen, Reaches, TooMany, Whole, Wrong}
 use Rattle.ssu_loader.specs.Collecting.{StopsBefore}
-use Rattle.ssu_loader.specs.Leaving.{Ends, IfUnsettled, InstallsChosen, SectionsLeave}
+use Rattle.ssu_loader.specs.Leaving.{Ends, IfBadModule, IfUnsettled, InstallsChosen, SectionsLeave}
 use Rattle.ssu_loader.specs.Loading.{Follows, IsUsable, KnowsPackets, bank_of}
 use Rattle.ssu_loader.specs.Replays.{ComesSeen, EndsWith, HearsAtPacket, HearsIn, ReplayLeaves, TakesAndInstalls, heard_in}
-use Rattle.ssu_loader.specs.Storing.{Stores, StoresBefore}
+use Rattle.ssu_loader.specs.Storing.{HasNoPrev, Stores, StoresBefore}
 use Rattle.ssu_loader.specs.Verdicts.{IsReached, IsSeen, IsVerdict}
 use Rattle.ssu_loader.proofs.FrontLaws.{none_before, taken_is}
 use Rattle.ssu_loader.proofs.KeepingLaws.{installs_after, installs_of, leaves_after}
@@ -268,15 +268,15 @@ module _ {S F : Type 0} (s : StageGhosts S) (f : FlashGhosts F) (count : ℕ) (f
 
     -- the verdict that it brings
     pub ends_at : (law : InBank s) (v : Verdict) (new : F) → Ends me heard (bank_of now) (f.contents mid) (f.contents new) v → IfUnsettled (Some v) (StopsBefore s f me heard new)
-        → f.block_count new ≡ f.block_count mid → f.block_len new ≡ f.block_len mid → EndsWith s.IN_BANK me left left_then g (f.contents old) (f.contents new) v
-    ends_at law (Installed chosen) new installs stops blocks lens = installs_at chosen (f.contents new) installs
-    ends_at law (Nothing level) new ends stops blocks lens = absurd ends.0
-    ends_at law (Incomplete chosen missing) new ends stops blocks lens = absurd ends.0
-    ends_at law (BadModule id want found) new ends stops blocks lens = (
+        → (s.IN_BANK ≡ true → IfBadModule (Some v) (HasNoPrev (geometry_of (bank_of now)) (f.contents new))) → f.block_count new ≡ f.block_count mid → f.block_len new ≡ f.block_len mid → EndsWith s.IN_BANK me left left_then g (f.contents old) (f.contents new) v
+    ends_at law (Installed chosen) new installs stops none blocks lens = installs_at chosen (f.contents new) installs
+    ends_at law (Nothing level) new ends stops none blocks lens = absurd ends.0
+    ends_at law (Incomplete chosen missing) new ends stops none blocks lens = absurd ends.0
+    ends_at law (BadModule id want found) new ends stops none blocks lens = (
       at_packet me left_then packet (λ sections. IsReached me sections (BadModule id want found)) (IsOpen me) takes one few ends.0 (open_now me follows),
-      keeps_at (f.contents new) ends.1,
+      (keeps_at (f.contents new) ends.1, λ is. subst (λ (blocks : Geometry). HasNoPrev blocks (f.contents new)) so_far.same.geometry (none is)),
     )
-    ends_at law Unsettled new ends stops blocks lens =
+    ends_at law Unsettled new ends stops none blocks lens =
         let lent = follows.collects.gathers.lent in
         let own : blocks_of f new ≡ g = same_geometry (blocks_of f new) g (blocks ∙ (so_far.blocks ∙ lent.blocks)) (lens ∙ (so_far.block_size ∙ lent.block_size)) in
         let y = f.contents new in (
@@ -317,7 +317,7 @@ seen_last me (Incomplete chosen missing) left left_then hears end =
 seen_last me (BadModule id want found) left left_then hears end = absurd (hears.now.1 (Wrong id want found) hears.now.0)
 seen_last me Unsettled left left_then hears end = absurd (hears.now.1 TooMany hears.now.0)
 
--- What is known at the end, where a stage in the bank has the places of the choice that stands.
+-- What is known at the end, where a stage in the bank has the places of the choice that stands, and what boot took before is gone.
 abbrev pub EndsLast : Bool → Geometry → List ℕ → Receiver → Verdict → List Heard → Type 0
 EndsLast in_bank g y me v heard = IsVerdict me heard v × IsOpen me heard × (in_bank ≡ true → Stores g y me heard)
 
@@ -325,7 +325,7 @@ pub ends_last : (in_bank : Bool) (me : Receiver) (v : Verdict) (left left_then :
     → IsAtEnd left_then → KeepsBoot g x y → EndsWith in_bank me left left_then g x y v
 ends_last in_bank me (Installed chosen) left left_then g x y hears end keeps = absurd (hears.now.1 (Whole chosen hears.now.0.0) hears.now.0.1)
 ends_last in_bank me (Nothing level) left left_then g x y hears end keeps =
-    (record { hears = record { taken = hears.taken; takes = hears.takes; bytes = hears.bytes; now = hears.now.0 }; end = end }, keeps)
+    (record { hears = record { taken = hears.taken; takes = hears.takes; bytes = hears.bytes; now = (hears.now.0, λ staged. (hears.now.2 staged).gone) }; end = end }, keeps)
 ends_last in_bank me (Incomplete chosen missing) left left_then g x y hears end keeps =
     (record { hears = record { taken = hears.taken; takes = hears.takes; bytes = hears.bytes; now = (hears.now.0, hears.now.2) }; end = end }, keeps)
 ends_last in_bank me (BadModule id want found) left left_then g x y hears end keeps = absurd (hears.now.1 (Wrong id want found) hears.now.0)

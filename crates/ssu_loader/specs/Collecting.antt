@@ -1,8 +1,8 @@
 -- What the collector of a group stands for: the sections that the box heard, the newest first. What is staged is seen by the
 -- words of the stage, and what the flash holds by those of the flash.
-use Rattle.std.specs.Prelude.{◌≡◌, ℕ, ◌<◌, ◌≤◌, List, [], ◌∷◌, ◌++◌, Some, is_some, IsTrue}
+use Rattle.std.specs.Prelude.{◌≡◌, ℕ, ◌<◌, ◌≤◌, List, [], ◌∷◌, ◌++◌, Some, is_some, IsTrue, true}
 use Rattle.flash_dev.specs.declared.device.Flash.{Ghosts as FlashGhosts}
-use Rattle.flash_bank.specs.Bank.{IsLent, current_of, len_of}
+use Rattle.flash_bank.specs.Bank.{IsLent, current_of, is_begun, len_of}
 use Rattle.flash_bank.specs.declared.bank.Bank.{Bank}
 use Rattle.flash_stage.specs.declared.stage.Stage.{Ghosts as StageGhosts}
 use Rattle.flash_stage.specs.Outline.{outline_of}
@@ -48,7 +48,8 @@ pub record Knows {S : Type 0} (s : StageGhosts S) (me : Receiver) (heard : List 
   pub filled : (choice : Choice) → IsChoice me heard choice → HasFilled s choice.plan (window me heard) c.stage
 
 -- Bank and stage may go on with this flash. Nothing is decided by these sections, and the places that are staged are those that
--- the window of the choice fills; where contents are told, each has the bytes of the first block that fills it.
+-- the window of the choice fills; where contents are told, each has the bytes of the first block that fills it. Where a choice began
+-- over a stage in the bank, the bank is begun.
 pub record Gathers {S F : Type 0} (s : StageGhosts S) (f : FlashGhosts F) (me : Receiver) (heard : List Heard) (c : Collector S)
     (flash : F) : Type 0 where
   pub len : me.bank_len ≡ len_of c.bank
@@ -59,6 +60,7 @@ pub record Gathers {S F : Type 0} (s : StageGhosts S) (f : FlashGhosts F) (me : 
   pub knows : Knows s me heard c
   pub works : (choice : Choice) → IsChoice me heard choice → Works s f choice.plan c.stage c.bank flash
   pub told : f.tells → (choice : Choice) → IsChoice me heard choice → HoldsFilling s choice.plan (window me heard) c.stage c.bank (f.contents flash)
+  pub begun : s.IN_BANK ≡ true → 1 ≤ c.choices → is_begun c.bank ≡ true
 
 -- The route stands for these sections too.
 pub record Collects {S F : Type 0} (s : StageGhosts S) (f : FlashGhosts F) (me : Receiver) (heard : List Heard) (c : Collector S)

@@ -1,11 +1,8 @@
 -- What a box decides by the sections that it heard. Lists of sections have the newest first.
-use Rattle.std.specs.Prelude.{◌≡◌, ◌⊎◌, ℕ, List, [], ◌∷◌, Some, IsSome, IsTrue}
-use Rattle.ts_crc.specs.Crc.{crc_of}
+use Rattle.std.specs.Prelude.{◌≡◌, ◌⊎◌, ℕ, List, [], ◌∷◌, IsSome, IsTrue}
 use Rattle.ts_section.specs.Events.{Heard}
 use Rattle.ssu_answer.specs.declared.chosen.Chosen.{Chosen}
-use Rattle.ssu_group.specs.declared.group_plan.GroupPlan.{GroupPlan}
-use Rattle.ssu_group.specs.declared.module_plan.ModulePlan.{ModulePlan}
-use Rattle.ssu_group.specs.Carried.{CarriesWhole, missing_places, carried_image, wrong_module, module_bytes}
+use Rattle.ssu_group.specs.Carried.{CarriesWhole, HasWrong}
 use Rattle.route_tables.specs.Values.{Receiver}
 use Rattle.ssu_route.specs.declared.choice.Choice.{Choice}
 use Rattle.ssu_route.specs.Windows.{IsChoice, is_one_too_many, standing, window}
@@ -24,16 +21,6 @@ pub record IsWhole (me : Receiver) (heard : List Heard) (chosen : Chosen) (image
   pub standing : IsStanding me heard choice
   pub is : chosen ≡ chosen_of choice
   pub whole : CarriesWhole choice.plan (window me heard) image
-
--- The sections fill all places of the plan, and this is the first module, in the order of the DII, that has not the CRC of its
--- descriptor: its id, that CRC, and the CRC of its bytes.
-pub record HasWrong (plan : GroupPlan) (sections : List (List ℕ)) (id want found : ℕ) : Type 0 where
-  pub filled : missing_places plan sections ≡ 0
-  pub module_plan : ModulePlan
-  pub first : wrong_module plan.modules.items (carried_image plan sections) ≡ Some module_plan
-  pub own_id : id ≡ module_plan.id
-  pub wanted : module_plan.crc ≡ Some want
-  pub has : found ≡ crc_of (module_bytes (carried_image plan sections) module_plan)
 
 -- The window of the choice that stands fills all its places, and a module of its group is wrong.
 pub record IsWrong (me : Receiver) (heard : List Heard) (id want found : ℕ) : Type 0 where

@@ -9,7 +9,7 @@ use Rattle.ts_section.specs.Events.{Heard}
 use Rattle.ssu_answer.specs.declared.chosen.Chosen.{Chosen}
 use Rattle.route_tables.specs.Values.{Receiver}
 use Rattle.ssu_answer.specs.declared.verdict.Verdict.{Verdict}
-use Rattle.ssu_answer.specs.declared.verdict.Verdict.TheVariants.{Installed, Unsettled}
+use Rattle.ssu_answer.specs.declared.verdict.Verdict.TheVariants.{BadModule, Installed, Unsettled}
 use Rattle.ssu_loader.specs.Decisions.{Reaches, Whole}
 use Rattle.ssu_loader.specs.Verdicts.{IsReached}
 
@@ -39,6 +39,11 @@ UnlessInstalled other fact = fact
 abbrev pub IfUnsettled : Option Verdict → Type 0 → Type 0
 IfUnsettled (Some Unsettled) fact = fact
 IfUnsettled other fact = Unit {0}
+
+-- the fact, where a module is wrong
+abbrev pub IfBadModule : Option Verdict → Type 0 → Type 0
+IfBadModule (Some (BadModule id want found)) fact = fact
+IfBadModule other fact = Unit {0}
 
 -- A verdict was reached or not, and x became y.
 abbrev pub GoesOn : Receiver → List Heard → Bank → List ℕ → List ℕ → Option Verdict → Type 0

@@ -15,7 +15,7 @@ use Rattle.ssu_route.specs.Windows.{beginnings}
 use Rattle.ssu_answer.specs.declared.verdict.Verdict.{Verdict}
 use Rattle.ssu_answer.specs.declared.verdict.Verdict.TheVariants.{Installed, Nothing, Incomplete, BadModule, Unsettled}
 use Rattle.ssu_loader.specs.Decisions.{IsOpen, Reaches, Whole}
-use Rattle.ssu_loader.specs.Storing.{Stores, StoresBefore}
+use Rattle.ssu_loader.specs.Storing.{EndsPrev, HasNoPrev, Stores, StoresBefore}
 use Rattle.ssu_loader.specs.Verdicts.{IsReached, IsSeen, IsVerdict}
 
 -- ---- what was taken
@@ -90,16 +90,19 @@ abbrev pub ReplayLeaves : Receiver → Option (List ℕ) → Option (List ℕ) �
 ReplayLeaves me left left_after g x y = KeepsBoot g x y ⊎ ((chosen : Chosen) × TakesAndInstalls me left left_after g x y chosen)
 
 -- The verdict of the packets that were taken, which came there, and x became y. Where the places of a group are staged in the
--- bank, those of a choice that stands at the end are there, and those of the sixteenth at one too many.
+-- bank, those of a choice that stands at the end are there, and those of the sixteenth at one too many; once a choice began, what
+-- boot took before is gone.
 abbrev pub EndsWith : Bool → Receiver → Option (List ℕ) → Option (List ℕ) → Geometry → List ℕ → List ℕ → Verdict → Type 0
 EndsWith in_bank me left left_after g x y (Installed chosen) = TakesAndInstalls me left left_after g x y chosen
 EndsWith in_bank me left left_after g x y (Nothing level) =
-    HearsToEnd me left left_after (λ heard. IsVerdict me heard (Nothing level)) × KeepsBoot g x y
+    HearsToEnd me left left_after
+    (λ heard. IsVerdict me heard (Nothing level) × (in_bank ≡ true → EndsPrev g y me heard)) × KeepsBoot g x y
 EndsWith in_bank me left left_after g x y (Incomplete chosen count) =
     HearsToEnd me left left_after
     (λ heard. IsVerdict me heard (Incomplete chosen count) × (in_bank ≡ true → Stores g y me heard)) × KeepsBoot g x y
 EndsWith in_bank me left left_after g x y (BadModule id want found) =
-    HearsAtPacket me left left_after (λ heard. IsReached me heard (BadModule id want found)) (IsOpen me) × KeepsBoot g x y
+    HearsAtPacket me left left_after (λ heard. IsReached me heard (BadModule id want found)) (IsOpen me)
+    × (KeepsBoot g x y × (in_bank ≡ true → HasNoPrev g y))
 EndsWith in_bank me left left_after g x y Unsettled =
     HearsAtPacket me left left_after
     (λ heard. IsReached me heard Unsettled × (in_bank ≡ true → StoresBefore g y me heard)) (IsOpen me) × KeepsBoot g x y

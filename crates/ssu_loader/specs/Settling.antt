@@ -1,6 +1,5 @@
 -- What becomes of a group once a block of it was taken. Lists of sections have the newest first.
-use Rattle.std.specs.Prelude.{◌≡◌, ◌⊎◌, ℕ, List, Bool, not, Some, false}
-use Rattle.ts_crc.specs.Crc.{crc_of}
+use Rattle.std.specs.Prelude.{◌≡◌, ◌⊎◌, ℕ, List}
 use Rattle.flash_dev.specs.declared.device.Flash.{Ghosts as FlashGhosts}
 use Rattle.flash_bank.specs.Bank.{current_of, geometry_of}
 use Rattle.flash_bank.specs.Leaving.{Installs, KeepsBoot}
@@ -9,13 +8,11 @@ use Rattle.flash_bank.specs.Runs.{OnlyReads}
 use Rattle.flash_bank.specs.declared.bank.Bank.{Bank}
 use Rattle.flash_stage.specs.declared.stage.Stage.{Ghosts as StageGhosts}
 use Rattle.flash_stage.specs.Leaving.{SameBank}
-use Rattle.ssu_group.specs.declared.module_plan.ModulePlan.{ModulePlan}
-use Rattle.ssu_group.specs.Carried.{CarriesWhole, is_right, module_bytes}
+use Rattle.ssu_group.specs.Carried.{CarriesWhole, HasWrong}
 use Rattle.ssu_route.specs.declared.choice.Choice.{Choice}
-use Rattle.ssu_loader.specs.declared.wrong.Wrong.{Wrong}
 use Rattle.ssu_answer.specs.declared.verdict.Verdict.{Verdict}
 use Rattle.ssu_answer.specs.declared.verdict.Verdict.TheVariants.{Installed, BadModule}
-use Rattle.ssu_loader.specs.Decisions.{HasWrong, chosen_of}
+use Rattle.ssu_loader.specs.Decisions.{chosen_of}
 
 -- ---- reading what is staged
 
@@ -26,18 +23,6 @@ pub record Stays {S F : Type 0} (s : StageGhosts S) (f : FlashGhosts F) (stage :
   pub bytes : f.tells → (n : ℕ) → s.bytes_at stage_after bank_after (f.contents flash_after) n ≡ s.bytes_at stage bank (f.contents flash) n
   pub same_bank : SameBank bank bank_after
   pub reads : OnlyReads f.tells f.contents f.block_count f.block_len f.moment f.left_since flash flash_after
-
--- ---- a module that is wrong
-
-abbrev pub is_wrong : List ℕ → ModulePlan → Bool
-is_wrong image m = not (is_right image m)
-
--- This module has not the CRC that its descriptor gives.
-pub record IsWrongOf (image : List ℕ) (m : ModulePlan) (wrong : Wrong) : Type 0 where
-  pub own_id : wrong.id ≡ m.id
-  pub wanted : m.crc ≡ Some wrong.want
-  pub has : wrong.found ≡ crc_of (module_bytes image m)
-  pub differs : is_right image m ≡ false
 
 -- ---- how it is settled
 

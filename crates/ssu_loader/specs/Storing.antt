@@ -1,8 +1,8 @@
--- The places of a group that stand in the spare bank. Lists of sections have the newest first.
-use Rattle.std.specs.Prelude.{◌≡◌, ℕ, ◌+◌, ◌-◌, ◌<◌, List, ◌∷◌, ◌++◌, Some, IsTrue}
+-- The places of a group that stand in the spare bank, and what its erase has ended. Lists of sections have the newest first.
+use Rattle.std.specs.Prelude.{◌≡◌, ℕ, ◌+◌, ◌-◌, ◌<◌, ◌≤◌, List, ◌∷◌, ◌++◌, Some, IsTrue}
 use Rattle.flash_bank.specs.Layout.{Geometry, bank_place}
 use Rattle.flash_bank.specs.Pairs.{part}
-use Rattle.flash_bank.specs.Sound.{IsCurrent, record_in}
+use Rattle.flash_bank.specs.Sound.{Boot, IsCurrent, PrevOf, record_in}
 use Rattle.ts_section.specs.Events.{Heard}
 use Rattle.ssu_group.specs.declared.group_plan.GroupPlan.{GroupPlan}
 use Rattle.ssu_group.specs.declared.places.Place.{Place}
@@ -10,7 +10,7 @@ use Rattle.ssu_group.specs.Carried.{filling}
 use Rattle.ssu_group.specs.Place.{place_at}
 use Rattle.route_tables.specs.Values.{Receiver}
 use Rattle.ssu_route.specs.declared.choice.Choice.{Choice}
-use Rattle.ssu_route.specs.Windows.{is_one_too_many, window}
+use Rattle.ssu_route.specs.Windows.{beginnings, is_one_too_many, window}
 use Rattle.ssu_loader.specs.Decisions.{IsStanding}
 
 -- Each place of the plan that the sections fill stands in the bank of these contents that boot does not take, with the bytes of
@@ -21,10 +21,18 @@ StandsInSpare g contents plan sections =
     → place_at plan.block_size plan.modules.items number ≡ Some place → filling plan sections number ≡ Some bytes
     → part contents (bank_place g (1 - (record_in g contents block).bank) + place.at) place.len ≡ bytes
 
--- Where a choice stands, the places that its window fills stand so.
-abbrev pub Stores : Geometry → List ℕ → Receiver → List Heard → Type 0
-Stores g contents me heard =
-    (choice : Choice) → IsStanding me heard choice → StandsInSpare g contents choice.plan (window me heard)
+-- What boot took before the current image is there no longer.
+abbrev pub HasNoPrev : Geometry → List ℕ → Type 0
+HasNoPrev g contents = (b : Boot) → PrevOf g contents b → ⊥
+
+-- It is not once a choice has begun.
+abbrev pub EndsPrev : Geometry → List ℕ → Receiver → List Heard → Type 0
+EndsPrev g contents me heard = 1 ≤ beginnings me heard → HasNoPrev g contents
+
+-- Where a choice stands, the places that its window fills stand so. What boot took before is gone once a choice has begun.
+pub record Stores (g : Geometry) (contents : List ℕ) (me : Receiver) (heard : List Heard) : Type 0 where
+  pub places : (choice : Choice) → IsStanding me heard choice → StandsInSpare g contents choice.plan (window me heard)
+  pub gone : EndsPrev g contents me heard
 
 -- At one of these sections a choice too many would begin, and the places of the one that stood before it stand so still.
 pub record StoresBefore (g : Geometry) (contents : List ℕ) (me : Receiver) (heard : List Heard) : Type 0 where

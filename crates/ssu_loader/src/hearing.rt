@@ -1,6 +1,6 @@
 //! The sections of one packet.
 
-ghost use Rattle.std.specs.Prelude.{◌≡◌, List, IfNone, IfOk, OnOk};
+ghost use Rattle.std.specs.Prelude.{◌≡◌, List, IfNone, IfOk, OnOk, true};
 ghost use Rattle.flash_bank.specs.Bank.{IsLent, geometry_of};
 ghost use Rattle.flash_dev.specs.Moments.{LeavesOnly};
 ghost use Rattle.flash_stage.specs.Leaving.{SameBank};
@@ -10,7 +10,8 @@ ghost use Rattle.route_tables.specs.Values.{Receiver};
 ghost use Rattle.ssu_route.specs.Queries.{after_all};
 ghost use Rattle.ssu_loader.specs.Collecting.{BeginsTooMany, Collects, IsUsable, StopsBefore};
 ghost use Rattle.ssu_route.specs.Windows.{beginnings};
-ghost use Rattle.ssu_loader.specs.Leaving.{GoesOn, IfUnsettled, SectionsLeave, UnlessInstalled};
+ghost use Rattle.ssu_loader.specs.Leaving.{GoesOn, IfBadModule, IfUnsettled, SectionsLeave, UnlessInstalled};
+ghost use Rattle.ssu_loader.specs.Storing.{HasNoPrev};
 ghost use Rattle.ssu_loader.specs.Verdicts.{IsSeen};
 
 use crate::collector::Collector;
@@ -47,6 +48,9 @@ pub(crate) fn hear_each<S: Stage, F: Flash>(
         → BeginsTooMany me pid each.now heard → flash.new ≡ flash.old }
     ensures too_many { (me : Receiver) (heard : List Heard) → Collects S.Stage F.Flash me heard collector.old flash.old
         → IfOk result (λ answer. IfUnsettled answer (StopsBefore S.Stage F.Flash me (after_all pid each.now heard) flash.new)) }
+    // A choice had begun where a module is wrong.
+    ensures no_prev { S.IN_BANK ≡ true → F.tells → (me : Receiver) (heard : List Heard) → Collects S.Stage F.Flash me heard collector.old flash.old
+        → IfOk result (λ answer. IfBadModule answer (HasNoPrev (geometry_of collector.old.bank) (F.contents flash.new))) }
     ensures same_bank { UnlessInstalled result (SameBank collector.old.bank collector.new.bank) }
     ensures lent { OnOk result (IsLent F.tells F.contents F.block_count F.block_len collector.new.bank flash.new) }
     ensures geometry { geometry_of collector.new.bank ≡ geometry_of collector.old.bank }

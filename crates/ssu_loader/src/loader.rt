@@ -18,8 +18,8 @@ ghost use Rattle.ssu_loader.specs.Decisions.{Reaches, Whole};
 ghost use Rattle.ssu_loader.specs.declared.fault.LoadFault.TheVariants as load_fault;
 ghost use Rattle.ssu_answer.specs.declared.verdict.Verdict.TheVariants as verdict;
 ghost use Rattle.ssu_loader.specs.Faults.{IsOfOpening, WhereInLimits, WhereNotWorn, WhereSound};
-ghost use Rattle.ssu_loader.specs.Leaving.{GoesOn, IfUnsettled, SectionsLeave, UnlessInstalled};
-ghost use Rattle.ssu_loader.specs.Storing.{Stores};
+ghost use Rattle.ssu_loader.specs.Leaving.{GoesOn, IfBadModule, IfUnsettled, SectionsLeave, UnlessInstalled};
+ghost use Rattle.ssu_loader.specs.Storing.{HasNoPrev, Stores};
 ghost use Rattle.ssu_route.specs.Windows.{beginnings};
 ghost use Rattle.ssu_loader.specs.Verdicts.{IsSeen, IsVerdict};
 
@@ -114,9 +114,13 @@ impl<S: Stage> Loader<S> {
             → BeginsTooMany me (pid_in packet.now) (brought (Feed packet.now ∷ followed me ps)) (heard_by me ps) → flash.new ≡ flash.old }
         ensures too_many { (me : Receiver) (ps : List (List ℕ)) → Follows S.Stage F.Flash me ps self.old flash.old
             → IfOk result (λ answer. IfUnsettled answer (StopsBefore S.Stage F.Flash me (heard_by me (packet.now ∷ ps)) flash.new)) }
-        // While no verdict is reached, a stage in the bank has the places of the choice that stands there.
+        // While no verdict is reached, a stage in the bank has the places of the choice that stands there, and once a choice began, what
+        // boot took before the current image is gone.
         ensures stored { S.IN_BANK ≡ true → F.tells → (me : Receiver) (ps : List (List ℕ)) → Follows S.Stage F.Flash me ps self.old flash.old
             → IfOk result (λ answer. IfNone answer (Stores (blocks_of F.Flash flash.new) (F.contents flash.new) me (heard_by me (packet.now ∷ ps)))) }
+        // Where a module is wrong, a choice had begun.
+        ensures no_prev { S.IN_BANK ≡ true → F.tells → (me : Receiver) (ps : List (List ℕ)) → Follows S.Stage F.Flash me ps self.old flash.old
+            → IfOk result (λ answer. IfBadModule answer (HasNoPrev (geometry_of (bank_of self.old)) (F.contents flash.new))) }
         // The current record stays, unless a group was installed.
         ensures same_bank { UnlessInstalled result (SameBank (bank_of self.old) (bank_of self.new)) }
         ensures lent { OnOk result (IsLent F.tells F.contents F.block_count F.block_len (bank_of self.new) flash.new) }

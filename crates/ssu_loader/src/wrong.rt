@@ -2,26 +2,18 @@
 
 ghost use Rattle.std.specs.Prelude.{◌≡◌, ◌≢◌, Contains, List, None, Some, IfOk, IfSome, MatchOption, OnOk, true, ℕ};
 ghost use Rattle.std.specs.List.{find};
-ghost use Rattle.ssu_group.specs.Carried.{carried_image, is_right};
+ghost use Rattle.ssu_group.specs.Carried.{IsWrong, carried_image, is_right, is_wrong};
 ghost use Rattle.ssu_group.specs.Map.{missing_below};
 ghost use Rattle.ssu_group.specs.declared.module_plan.ModulePlan.{ModulePlan};
 ghost use Rattle.ssu_io.specs.Faults.{HasCause};
 ghost use Rattle.ssu_loader.specs.Collecting.{HasFilled, HoldsFilling, Works};
-ghost use Rattle.ssu_loader.specs.Settling.{IsWrongOf, Stays, is_wrong};
+ghost use Rattle.ssu_loader.specs.Settling.{Stays};
 ghost use Rattle.ssu_loader.specs.Verdicts.{DiffersFrom};
 
 use flash_bank::{Bank, FlashFault};
 use flash_dev::Flash;
 use flash_stage::Stage;
-use ssu_group::{GroupPlan, ModulePlan};
-
-/// A module with the CRC of its descriptor and the CRC of its bytes, which differ.
-#[derive(Clone, Copy, Debug, PartialEq, Eq)]
-pub(crate) struct Wrong {
-    pub(crate) id: u16,
-    pub(crate) want: u32,
-    pub(crate) found: u32,
-}
+use ssu_group::{GroupPlan, ModulePlan, Wrong};
 
 /// Whether the bytes of the module have another CRC than its descriptor gives, if it gives one.
 fn wrong_of<S: Stage, F: Flash>(
@@ -38,7 +30,7 @@ fn wrong_of<S: Stage, F: Flash>(
     ensures wrong { F.tells → (window : List (List ℕ)) → HasFilled S.Stage plan.now window stage.old
         → HoldsFilling S.Stage plan.now window stage.old bank.old (F.contents flash.old)
         → IfOk result (λ answer. MatchOption answer (is_right (carried_image plan.now window) part.now ≡ true)
-        (λ wrong. IsWrongOf (carried_image plan.now window) part.now wrong)) }
+        (λ wrong. IsWrong (carried_image plan.now window) part.now wrong)) }
     ensures differs { IfOk result (λ answer. IfSome answer (λ wrong. DiffersFrom plan.now wrong.id wrong.want wrong.found)) }
     ensures stays { Stays S.Stage F.Flash stage.old bank.old flash.old stage.new bank.new flash.new }
     ensures most { S.most stage.new ≡ S.most stage.old }
@@ -74,7 +66,7 @@ pub(crate) fn first_wrong<S: Stage, F: Flash>(
         → HoldsFilling S.Stage plan.now window stage.old bank.old (F.contents flash.old)
         → IfOk result (λ answer. MatchOption answer (find (is_wrong (carried_image plan.now window)) plan.now.modules.items ≡ None)
         (λ wrong. (m : ModulePlan) × (find (is_wrong (carried_image plan.now window)) plan.now.modules.items ≡ Some m)
-        × IsWrongOf (carried_image plan.now window) m wrong)) }
+        × IsWrong (carried_image plan.now window) m wrong)) }
     ensures differs { IfOk result (λ answer. IfSome answer (λ wrong. DiffersFrom plan.now wrong.id wrong.want wrong.found)) }
     ensures stays { Stays S.Stage F.Flash stage.old bank.old flash.old stage.new bank.new flash.new }
     ensures most { S.most stage.new ≡ S.most stage.old }

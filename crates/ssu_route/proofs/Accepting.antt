@@ -12,9 +12,8 @@ use Rattle.dsmcc_msg.specs.Control.{GroupFields, DsiFields, dsi}
 use Rattle.ssu_route.specs.declared.found.Found.{Found}
 use Rattle.ssu_route.specs.declared.accept.Terms.{Terms}
 use Rattle.ssu_route.specs.Offers.{Offer}
-use Rattle.ssu_route.specs.Kept.{afresh, offers_of, seen}
-use Rattle.ssu_route.specs.Accepted.{is_accepted_by, offer_to, accepted_in, found_items}
-use Rattle.ssu_route.specs.Standing.{offers_after}
+use Rattle.ssu_route.specs.Kept.{afresh, offers_of, seen, is_accepted_by, offer_to, accepted_in, found_items}
+use Rattle.ssu_route.specs.Route.{offers_after}
 
 abbrev some : {A : Type 0} → A → Option A
 some x = Some x

@@ -20,8 +20,7 @@ use Rattle.ssu_route.specs.Choosing.{level_6, level_7}
 use Rattle.ssu_route.specs.Windows.{IsChoice, chosen_dii, offered_by}
 use Rattle.ssu_route.specs.Queries.{count_and_total}
 use Rattle.ssu_route.specs.Kept.{first_usable, groups_by, groups_found, message_if, offers_of, usable_after}
-use Rattle.ssu_route.specs.Standing.{KeptStands}
-use Rattle.ssu_route.specs.Route.{HasUsableDii}
+use Rattle.ssu_route.specs.Route.{KeptStands, HasUsableDii}
 use Rattle.ssu_route.proofs.Accepting.{seen_offers}
 use Rattle.ssu_route.proofs.LevelSteps.{no_carousel, wanted_is}
 

@@ -15,7 +15,6 @@ use Rattle.ssu_route.specs.Offers.{same_message}
 use Rattle.ssu_route.specs.Choosing.{level_7}
 use Rattle.ssu_route.specs.Windows.{begins_at, beginnings, change_at, change_of, window, window_of}
 use Rattle.ssu_route.specs.Queries.{carousel_pid}
-use Rattle.route_tables.specs.Standing.{pid_of_carousel}
 use Rattle.ssu_route.proofs.Same.{message_sound}
 use Rattle.ssu_route.proofs.Parts.{carousel_stays}
 use Rattle.ssu_route.proofs.LevelSteps.{no_carousel, no_message}
@@ -114,7 +113,7 @@ pub carousel_stands : (me : Receiver) (heard : List Heard) → IsSome (level_7 m
 unfolding carousel_pid
 carousel_stands me heard some = by_carousel (level_5 me heard) refl
   where
-    by_carousel : (c : Option CarouselFound) → level_5 me heard ≡ c → IsSome (option_map pid_of_carousel c)
+    by_carousel : (c : Option CarouselFound) → level_5 me heard ≡ c → IsSome (option_map (λ c. c.pid) c)
     by_carousel None e = let f = sym (ap is_some (no_message me heard (no_carousel me heard e))) ∙ some in cc
     by_carousel (Some c) e = refl
 
@@ -136,13 +135,13 @@ joins_at : (c : CarouselFound) (item : Heard) (part : List Heard) (b : Bool) →
 joins_at c item part true e = rw e refl
 joins_at c item part false e = rw e refl
 
-joins : (c : Option CarouselFound) (pid : ℕ) (item : Heard) (part : List Heard) → option_map pid_of_carousel c ≡ Some pid → item.pid ≡ pid →
+joins : (c : Option CarouselFound) (pid : ℕ) (item : Heard) (part : List Heard) → option_map (λ c. c.pid) c ≡ Some pid → item.pid ≡ pid →
     window_of c (item ∷ part) ≡ item.section ∷ window_of c part
 joins None pid item part e same = cc
 joins (Some c) pid item part e same =
     joins_at c item part true (eq-eqb item.pid c.pid (same ∙ some_same pid c.pid (sym e)))
 
-passes : (c : Option CarouselFound) (pid : ℕ) (item : Heard) (part : List Heard) → option_map pid_of_carousel c ≡ Some pid → item.pid ≢ pid →
+passes : (c : Option CarouselFound) (pid : ℕ) (item : Heard) (part : List Heard) → option_map (λ c. c.pid) c ≡ Some pid → item.pid ≢ pid →
     window_of c (item ∷ part) ≡ window_of c part
 passes None pid item part e other = cc
 passes (Some c) pid item part e other =

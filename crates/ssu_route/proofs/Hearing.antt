@@ -19,10 +19,8 @@ use Rattle.ssu_route.specs.declared.kept.Kept.{Kept}
 use Rattle.ssu_route.specs.Offers.{Offer, carries_subgroup, is_accepted, offer_of, offers_in, offers_said, same_offers}
 use Rattle.ssu_route.specs.Choosing.{level_6, level_7}
 use Rattle.ssu_route.specs.Windows.{change_at, change_of}
-use Rattle.ssu_route.specs.Accepted.{accepted_in, is_accepted_by, offer_to}
-use Rattle.ssu_route.specs.Kept.{afresh, first_usable, groups_found, marked, message_if, next_held, seen, usable_after}
-use Rattle.ssu_route.specs.Taking.{Restarts, Takes, WherePlanned, held}
-use Rattle.ssu_route.specs.Standing.{AreTermsOf, KeptHears, KeptStands, offers_after}
+use Rattle.ssu_route.specs.Kept.{accepted_in, is_accepted_by, offer_to, afresh, first_usable, groups_found, marked, message_if, next_held, seen, usable_after}
+use Rattle.ssu_route.specs.Route.{Restarts, Takes, WherePlanned, held, AreTermsOf, KeptHears, KeptStands, offers_after}
 use Rattle.ssu_route.proofs.Same.{offers_itself}
 use Rattle.ssu_route.proofs.TakingLaws.{nothing_changes, take_none}
 use Rattle.ssu_route.proofs.LevelSteps.{groups_afresh, groups_now, groups_stay, heard_dii, level_6-changes, level_6-stays, message_afresh, next_offers, no_carousel, no_groups, no_message}

@@ -4,9 +4,8 @@ use Rattle.std.specs.Prelude.{map, if◌then◌else◌, is_some, unwrap_or}
 use Rattle.std.specs.List.{find}
 use Rattle.std.specs.Option.{option_map, option_and_then, option_or}
 use Rattle.std.proofs.lemmas.Bool.{eqb-true, eq-eqb, eqb-false, ne_eqb}
-use Rattle.route_part.specs.Laws.{StepsBy}
+use Rattle.route_part.specs.Said.{StepsBy, last_said, held_said}
 use Rattle.route_part.specs.Part.{since}
-use Rattle.route_part.specs.Said.{last_said, held_said}
 use Rattle.route_part.proofs.Steps.{by_part, held_said-none, held_said-step, last_said-none, last_said-step, since-changes, since-stays}
 use Rattle.ts_section.specs.Events.{Heard}
 use Rattle.dsmcc_msg.specs.Control.{DiiFields, dii}

@@ -4,7 +4,7 @@ use Rattle.std.specs.Prelude.{◌==◌}
 use Rattle.std.specs.Str.{bytes_eq}
 use Rattle.std.proofs.lemmas.Bool.{eq-eqb, eqb-true}
 use Rattle.std.proofs.lemmas.Slice.Eq.{bytes_eq-Decides}
-use Rattle.route_part.specs.Laws.{IsSound}
+use Rattle.route_part.specs.Said.{IsSound}
 use Rattle.ssu_compat.specs.declared.rule.SwId.{SwId}
 use Rattle.route_tables.specs.Values.{same_option, same_list, same_number}
 use Rattle.route_tables.proofs.Same.{and_left, and_right, option_sound, list_sound, number_sound}

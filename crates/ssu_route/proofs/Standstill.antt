@@ -10,8 +10,7 @@ use Rattle.route_tables.specs.Values.{Receiver, CarouselFound, same_carousel, sa
 use Rattle.si_table.specs.Pids.{pat_pid, nit_pid, bat_pid, time_pid}
 use Rattle.route_tables.specs.Said.{on}
 use Rattle.route_tables.specs.Levels.{level_2, level_3, level_5}
-use Rattle.route_tables.specs.Standing.{pid_of_carousel, pid_of_component, pid_of_program}
-use Rattle.route_tables.specs.Unmoved.{IsElsewhere, IsUnmoved}
+use Rattle.route_tables.specs.Standing.{IsElsewhere, IsUnmoved}
 use Rattle.route_tables.proofs.Itself.{option_itself}
 use Rattle.route_tables.proofs.Unmoved.{elsewhere, silent}
 use Rattle.ssu_route.specs.declared.change.Change.TheVariants.{Same}
@@ -21,7 +20,7 @@ use Rattle.ssu_route.specs.Choosing.{level_6, level_7}
 use Rattle.ssu_route.specs.Windows.{IsChoice, change_at, change_of, chosen_dii, offered_by}
 use Rattle.ssu_route.specs.Queries.{carousel_pid, listened, missing, report}
 use Rattle.ssu_route.specs.Kept.{first_usable, groups_found, message_for, next_held}
-use Rattle.ssu_route.specs.Staying.{Stays}
+use Rattle.ssu_route.specs.Route.{Stays}
 use Rattle.ssu_route.proofs.Same.{offers_itself}
 use Rattle.ssu_route.proofs.TakingLaws.{group_same, nothing_changes, some, some_same}
 use Rattle.ssu_route.proofs.LevelSteps.{Goes, groups_stay, heard_dii, no_carousel, no_groups, no_message, wanted_is}
@@ -158,14 +157,14 @@ not_there pid (Some x) h e = (not_head pid x [] h).0 (some_same pid x (sym e))
 
 record NotListened (me : Receiver) (earlier : List Heard) (pid : ℕ) : Type 0 where
   tables : IsElsewhere me earlier pid
-  carousel : option_map pid_of_carousel (level_5 me earlier) ≢ Some pid
+  carousel : option_map (λ c. c.pid) (level_5 me earlier) ≢ Some pid
 
 not_listened : (me : Receiver) (earlier : List Heard) (pid : ℕ) → is_among pid (listened me earlier) ≡ false → NotListened me earlier pid
 unfolding listened carousel_pid
 not_listened me earlier pid h =
-    let program = option_map pid_of_program (level_2 me earlier) in
-    let component = option_map pid_of_component (level_3 me earlier) in
-    let carousel = option_map pid_of_carousel (level_5 me earlier) in
+    let program = option_map (λ p. p.pid) (level_2 me earlier) in
+    let component = option_map (λ c. c.pid) (level_3 me earlier) in
+    let carousel = option_map (λ c. c.pid) (level_5 me earlier) in
     let others = option_to_list program ++ option_to_list component ++ option_to_list carousel in
     let pat = not_head pid pat_pid (nit_pid ∷ bat_pid ∷ time_pid ∷ others) h in
     let nit = not_head pid nit_pid (bat_pid ∷ time_pid ∷ others) pat.1 in
@@ -194,5 +193,5 @@ unlistened_stays me item earlier h =
     off_carousel : (c : CarouselFound) → level_5 me earlier ≡ Some c → SaysNothing me item c
     off_carousel c e =
         let differs : eqb item.pid c.pid ≡ false =
-        ne_eqb item.pid c.pid (λ same. (not_listened me earlier item.pid h).carousel (ap (option_map pid_of_carousel) e ∙ ap some (sym same))) in
+        ne_eqb item.pid c.pid (λ same. (not_listened me earlier item.pid h).carousel (ap (option_map (λ (c : CarouselFound). c.pid)) e ∙ ap some (sym same))) in
         record { offers = offers_off me c item differs; dii = dii_off c.pid item differs }

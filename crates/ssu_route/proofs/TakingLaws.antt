@@ -19,7 +19,7 @@ use Rattle.ssu_route.specs.declared.kept.Kept.{Kept}
 use Rattle.ssu_route.specs.Offers.{Offer, dii_of, same_group, same_message}
 use Rattle.ssu_route.specs.Windows.{change_of, offered_by}
 use Rattle.ssu_route.specs.Kept.{IsPlanned, first_usable, found_group, has_group, mark_if, marked, message_for, message_if, next_held, offers_of, seen, seen_offer, stands}
-use Rattle.ssu_route.specs.Taking.{Chooses, EndsLapsed, Takes, WherePlanned, choice_of, held, held_by, is_first, is_held, lapses}
+use Rattle.ssu_route.specs.Route.{Chooses, EndsLapsed, Takes, WherePlanned, choice_of, held, held_by, is_first, is_held, lapses}
 
 abbrev pub some : {A : Type 0} → A → Option A
 some x = Some x

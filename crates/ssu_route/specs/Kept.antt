@@ -1,20 +1,25 @@
 -- What is kept of the last two levels, and what it stands for.
-use Rattle.std.specs.Prelude.{◌≡◌, ℕ, Bool, true, not, ◌==◌, List, [], map, Option, Some, None, is_some, if◌then◌else◌}
-use Rattle.std.specs.List.{find}
+use Rattle.std.specs.Prelude.{◌≡◌, ℕ, Bool, true, not, ◌==◌, List, [], map, Option, Some, None, is_some, if◌then◌else◌, ◌&&◌, take}
+use Rattle.std.specs.List.{find, filter}
 use Rattle.std.specs.Option.{option_map, option_and_then, option_or}
 use Rattle.route_part.specs.Part.{since}
 use Rattle.route_part.specs.Said.{last_said}
 use Rattle.ts_section.specs.Events.{Heard}
-use Rattle.dsmcc_msg.specs.Control.{DiiFields}
+use Rattle.dsmcc_msg.specs.Control.{DiiFields, GroupFields, DsiFields}
 use Rattle.ssu_group.specs.Refusal.{refusal}
 use Rattle.ssu_group.specs.Lays.{IsPlanOf}
 use Rattle.route_tables.specs.Values.{Receiver, CarouselFound}
 use Rattle.route_tables.specs.Levels.{level_5}
 use Rattle.ssu_route.specs.declared.found.Found.{Found}
 use Rattle.ssu_route.specs.declared.choice.Choice.{Choice}
-use Rattle.ssu_route.specs.Offers.{Offer, same_offers, same_group, dii_said, dii_if, dii_of}
+use Rattle.ssu_route.specs.Offers.{Offer, same_offers, same_group, dii_said, dii_if, dii_of, carries_subgroup}
 use Rattle.ssu_route.specs.Choosing.{is_usable, message_bytes, level_6}
 use Rattle.ssu_route.specs.Windows.{offered_by}
+use Rattle.arrayvec.specs.ArrayVec.{ArrayVec}
+use Rattle.ssu_compat.specs.Match.{matches, offered, admits}
+use Rattle.ssu_compat.specs.declared.rule.SwId.{SwId}
+use Rattle.dsmcc_msg.specs.declared.group.Group.{Group}
+use Rattle.ssu_route.specs.declared.accept.Terms.{Terms}
 
 -- ---- the groups that were found
 
@@ -93,3 +98,24 @@ message_for (Some group) d = option_map message_bytes (option_and_then (dii_if g
 -- The message that is held after a DII, where this group is wanted now and that one was wanted before.
 abbrev pub next_held : Option DiiFields → Option ℕ → Option ℕ → Option (List ℕ) → Option (List ℕ)
 next_held d now before held = option_or (message_for now d) (if same_group now before then held else None)
+
+-- ---- which groups a box accepts, by what is kept of the box
+
+-- a group as the code has it, without where its bytes lie
+abbrev pub group_view : Group → GroupFields
+group_view g = record { id = g.id; size = g.size; compat = g.compat; info = g.info.now }
+
+abbrev pub is_accepted_by : Terms → SwId → Option ℕ → GroupFields → Bool
+is_accepted_by terms running wanted g =
+    matches terms.id.oui terms.id.model terms.id.version g.compat
+    && (admits terms.rule running (offered terms.id.oui g.compat) && carries_subgroup wanted g)
+
+abbrev pub offer_to : Terms → GroupFields → Offer
+offer_to terms g = record { group = g.id; software = offered terms.id.oui g.compat }
+
+-- the first 32 groups that the box accepts
+unfoldable pub accepted_in : Terms → SwId → Option ℕ → DsiFields → List Offer
+accepted_in terms running wanted d = take 32 (map (offer_to terms) (filter (is_accepted_by terms running wanted) d.groups))
+
+abbrev pub found_items : ArrayVec Found → List Found
+found_items groups = groups.items

@@ -3,8 +3,4 @@ pub mod Choosing
 pub mod Windows
 pub mod Queries
 pub mod Kept
-pub mod Accepted
-pub mod Taking
-pub mod Standing
 pub mod Route
-pub mod Staying

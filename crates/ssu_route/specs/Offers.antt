@@ -1,6 +1,6 @@
 -- The groups that a box accepts, and what one section says of them. A section that is not of the format of its message
 -- says nothing. ETSI EN 301 192; ETSI TS 102 006.
-use Rattle.std.specs.Prelude.{ℕ, Bool, true, false, ◌&&◌, ◌==◌, List, map, take, Option, Some, None, if◌then◌else◌}
+use Rattle.std.specs.Prelude.{ℕ, Bool, true, ◌&&◌, ◌==◌, List, map, take, Option, Some, None, if◌then◌else◌}
 use Rattle.std.specs.List.{filter, list_any}
 use Rattle.std.specs.Option.{option_map, option_and_then}
 use Rattle.std.specs.Str.{bytes_eq}
@@ -11,6 +11,7 @@ use Rattle.ssu_compat.specs.declared.rule.SwId.{SwId}
 use Rattle.dsmcc_msg.specs.Control.{GroupFields, DsiFields, dsi, DiiFields, dii, dii_message}
 use Rattle.route_tables.specs.Values.{Receiver, CarouselFound, same_option, same_list, same_number}
 use Rattle.route_tables.specs.Said.{on}
+use Rattle.route_tables.specs.Levels.{is_number}
 
 -- A group of a carousel that the box accepts: its id, and the software that it offers, if it names one.
 pub record Offer : Type 0 where
@@ -35,10 +36,6 @@ abbrev pub same_message : Option (List ℕ) → Option (List ℕ) → Bool
 same_message = same_option bytes_eq
 
 -- ---- Groups: EN 301 192, 8.1. A DSI lists the groups of a carousel, each with a compatibility descriptor (TS 102 006, 9.5.2).
-
-abbrev pub is_number : ℕ → Option ℕ → Bool
-is_number number None = false
-is_number number (Some n) = n == number
 
 abbrev pub is_subgroup : ℕ → DescFields → Bool
 is_subgroup number d = d.tag == 0x0B && is_number number (subgroup_association.of d.body)

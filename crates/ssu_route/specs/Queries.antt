@@ -10,7 +10,7 @@ use Rattle.route_tables.specs.Next.{heard_on}
 use Rattle.route_tables.specs.Values.{Receiver}
 use Rattle.si_table.specs.Pids.{pat_pid, nit_pid, bat_pid, time_pid}
 use Rattle.route_tables.specs.Levels.{level_1, level_2, level_3, level_4, level_5}
-use Rattle.route_tables.specs.Standing.{needs_notice, pid_and_type, pid_of_carousel, pid_of_component, pid_of_program, service_and_pid}
+use Rattle.route_tables.specs.Standing.{needs_notice}
 use Rattle.ssu_route.specs.Choosing.{level_6}
 use Rattle.ssu_route.specs.Windows.{chosen_dii}
 
@@ -18,15 +18,15 @@ use Rattle.ssu_route.specs.Windows.{chosen_dii}
 
 -- the PID of the carousel
 unfoldable pub carousel_pid : Receiver → List Heard → Option ℕ
-carousel_pid me heard = option_map pid_of_carousel (level_5 me heard)
+carousel_pid me heard = option_map (λ c. c.pid) (level_5 me heard)
 
 -- The PIDs of the PAT, the NIT, the BAT and the time, always; and those of the PMT, of the component and of the carousel,
 -- as far as they are known. The other streams of the program are not listened to.
 unfoldable pub listened : Receiver → List Heard → List ℕ
 listened me heard =
     pat_pid ∷ nit_pid ∷ bat_pid ∷ time_pid
-    ∷ (option_to_list (option_map pid_of_program (level_2 me heard))
-    ++ option_to_list (option_map pid_of_component (level_3 me heard))
+    ∷ (option_to_list (option_map (λ p. p.pid) (level_2 me heard))
+    ++ option_to_list (option_map (λ c. c.pid) (level_3 me heard))
     ++ option_to_list (carousel_pid me heard))
 
 -- ---- what a box hears that always listens to these PIDs
@@ -77,8 +77,8 @@ count_and_total d = (length d.modules, total_of d.modules)
 unfoldable pub report : Receiver → List Heard → Report
 report me heard = record {
   services = length (level_1 me heard);
-  program = option_map service_and_pid (level_2 me heard);
-  component = option_map pid_and_type (level_3 me heard);
+  program = option_map (λ p. (p.service.service, p.pid)) (level_2 me heard);
+  component = option_map (λ c. (c.pid, c.update_type)) (level_3 me heard);
   notices = length (level_4 me heard);
   carousel = carousel_pid me heard;
   groups = length (level_6 me heard);

@@ -1,5 +1,7 @@
 -- When the box chooses a group, and the sections that may carry it: ETSI EN 301 192, 8.1. What is chosen is the value of level 7.
-use Rattle.std.specs.Prelude.{◌≡◌, ℕ, ◌+◌, min, Bool, false, ◌&&◌, not, ◌==◌, nat_le, List, [], ◌∷◌, Option, Some, None, is_some, option_and_then, unwrap_or, if◌then◌else◌}
+use Rattle.std.specs.Prelude.{◌≡◌, ℕ, ◌+◌, min, Bool, false, ◌&&◌, not, ◌==◌, nat_le, List, []}
+use Rattle.std.specs.Prelude.{◌∷◌, Option, Some, None, is_some, option_and_then, unwrap_or}
+use Rattle.std.specs.Prelude.{if◌then◌else◌}
 use Rattle.std.specs.List.{filter_map, find}
 use Rattle.route_part.specs.Part.{since}
 use Rattle.ts_section.specs.Events.{Heard}

@@ -4,8 +4,7 @@ ghost use Rattle.std.specs.Prelude.{◌≡◌, ◌≤◌, ◌++◌, ◌∷◌, [
 ghost use Rattle.std.specs.Option.{option_map};
 ghost use Rattle.si_desc.specs.Views.{desc_view};
 ghost use Rattle.dsmcc_msg.specs.Control.{dsi};
-ghost use Rattle.ssu_route.specs.Accepted.{accepted_in, found_items, group_view, is_accepted_by};
-ghost use Rattle.ssu_route.specs.Kept.{afresh};
+ghost use Rattle.ssu_route.specs.Kept.{accepted_in, found_items, group_view, is_accepted_by, afresh};
 ghost use Rattle.ssu_route.specs.Offers.{carries_subgroup, is_subgroup as names_subgroup};
 
 use crate::found::{Found, FoundGroups};

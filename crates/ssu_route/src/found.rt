@@ -5,7 +5,7 @@ ghost use Rattle.std.specs.List.{list_any};
 ghost use Rattle.ssu_route.specs.Kept.{first_usable, has_group, mark_if, offers_of, seen_offer};
 ghost use Rattle.route_tables.specs.Values.{same_option};
 ghost use Rattle.ssu_route.specs.Offers.{same_offer, same_offers, same_software};
-ghost use Rattle.ssu_route.specs.Taking.{is_first};
+ghost use Rattle.ssu_route.specs.Route.{is_first};
 ghost use Rattle.ssu_route.specs.Windows.{offered_by};
 
 use arrayvec::ArrayVec;

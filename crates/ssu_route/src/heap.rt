@@ -7,7 +7,7 @@ ghost use Rattle.route_tables.specs.Next.{heard_on};
 ghost use Rattle.route_tables.specs.Values.{Receiver};
 ghost use Rattle.ssu_route.specs.Choosing.{level_7};
 ghost use Rattle.ssu_route.specs.Windows.{IsChoice, change_at};
-ghost use Rattle.ssu_route.specs.Staying.{Stays};
+ghost use Rattle.ssu_route.specs.Route.{Stays};
 ghost use Rattle.ssu_route.specs.Queries.{carousel_pid, listened, missing as missing_level, report as report_of};
 
 use crate::change::Change;

@@ -39,8 +39,9 @@ pub(crate) struct Kept {
 }
 
 impl Kept {
-    ghost use Rattle.ssu_route.specs.Standing.{AreTermsOf, KeptHears, KeptStands, offers_after};
-    ghost use Rattle.ssu_route.specs.Taking.{Chooses, EndsLapsed, Restarts, Takes, WherePlanned, held, is_first, is_held, is_lapsed as lapsed};
+    ghost use Rattle.ssu_route.specs.Route.{AreTermsOf, KeptHears, KeptStands, offers_after, Chooses, EndsLapsed};
+    ghost use Rattle.ssu_route.specs.Route.{Restarts, Takes, WherePlanned, held, is_first, is_held};
+    ghost use Rattle.ssu_route.specs.Route.{is_lapsed as lapsed};
 
     /// No group.
     pub(crate) fn new() -> Kept

@@ -8,10 +8,10 @@ ghost use Rattle.route_tables.specs.Next.{heard_on};
 ghost use Rattle.route_tables.specs.Values.{Receiver};
 ghost use Rattle.si_table.specs.Pids.{pat_pid, nit_pid, bat_pid, time_pid};
 ghost use Rattle.route_tables.specs.Levels.{level_2, level_3, level_4, level_5};
-ghost use Rattle.route_tables.specs.Standing.{needs_notice, pid_of_component, pid_of_program};
+ghost use Rattle.route_tables.specs.Standing.{needs_notice};
 ghost use Rattle.ssu_route.specs.Choosing.{level_6, level_7};
 ghost use Rattle.ssu_route.specs.Windows.{IsChoice, change_at, chosen_dii};
-ghost use Rattle.ssu_route.specs.Staying.{Stays};
+ghost use Rattle.ssu_route.specs.Route.{Stays};
 ghost use Rattle.ssu_route.specs.Queries.{carousel_pid, count_and_total, has_none, listened, missing as missing_level, report as report_of};
 
 use crate::accept::Terms;
@@ -95,7 +95,7 @@ impl Route {
 
     fn program_pid(&self) -> Option<Pid>
         ensures { (me : Receiver) (heard : List Heard) → Stands me heard self.now
-            → result ≡ option_map pid_of_program (level_2 me heard) }
+            → result ≡ option_map (λ p. p.pid) (level_2 me heard) }
     {
         match self.tables.program() {
             Some((_, pid)) => Some(pid),
@@ -105,7 +105,7 @@ impl Route {
 
     fn component_pid(&self) -> Option<Pid>
         ensures { (me : Receiver) (heard : List Heard) → Stands me heard self.now
-            → result ≡ option_map pid_of_component (level_3 me heard) }
+            → result ≡ option_map (λ c. c.pid) (level_3 me heard) }
     {
         match self.tables.component() {
             Some((pid, _)) => Some(pid),

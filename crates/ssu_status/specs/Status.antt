@@ -1,15 +1,15 @@
 -- The exit code of a status, its text on standard error, the status of a verdict, and facts for one status.
 use Rattle.std.specs.Prelude.{ℕ, List, [], ◌++◌, codes, decimal}
+use Rattle.audit_answer.specs.declared.answers.AuditNo.{AuditNo}
 use Rattle.ssu_answer.specs.declared.build_fault.BuildFault.{BuildFault}
 use Rattle.ssu_answer.specs.declared.build_fault.BuildFault.TheVariants.{ImageTooLong, TooManySections, Memory}
 use Rattle.ssu_answer.specs.declared.chosen.Chosen.{Chosen}
-use Rattle.ssu_answer.specs.declared.level.Level.{Level}
 use Rattle.ssu_answer.specs.declared.verdict.Verdict.{Verdict}
 use Rattle.ssu_answer.specs.declared.verdict.Verdict.TheVariants as verdict
 use Rattle.ssu_status.specs.declared.status.Status.{Status}
 use Rattle.ssu_status.specs.declared.status.Status.TheVariants.{Done, Installed, Usage, BoxRefused, PlanRefused, Foreign, Nothing, Incomplete, BadModule}
 use Rattle.ssu_status.specs.declared.status.Status.TheVariants.{Absent, ReadFault, WriteFault, FlashFault, Worn, TooLong, NoMemory, NoFit, Geometry, ShelfFault}
-use Rattle.ssu_status.specs.declared.status.Status.TheVariants.{Unsettled, BuildRefused}
+use Rattle.ssu_status.specs.declared.status.Status.TheVariants.{Unsettled, BuildRefused, AuditRefused}
 
 abbrev pub code_of : Status → ℕ
 code_of Done = 0
@@ -33,6 +33,7 @@ code_of Geometry = 17
 code_of ShelfFault = 18
 code_of Unsettled = 19
 code_of (BuildRefused fault) = 20
+code_of (AuditRefused fact) = 21
 
 abbrev pub refusal_text : BuildFault → List ℕ
 refusal_text (ImageTooLong name) = name.bytes ++ codes " is too long"
@@ -61,6 +62,7 @@ text_of Geometry = codes "flash has a wrong geometry"
 text_of ShelfFault = codes "file could not be read"
 text_of Unsettled = []
 text_of (BuildRefused fault) = refusal_text fault
+text_of (AuditRefused fact) = []
 
 -- the status of a verdict
 abbrev pub status_of : Verdict → Status
@@ -128,3 +130,7 @@ OnShelfFault other fact = Unit {0}
 abbrev pub OnBuildRefused : Status → (BuildFault → Type 0) → Type 0
 OnBuildRefused (BuildRefused fault) fact = fact fault
 OnBuildRefused other fact = Unit {0}
+
+abbrev pub OnAuditRefused : Status → (AuditNo → Type 0) → Type 0
+OnAuditRefused (AuditRefused why) fact = fact why
+OnAuditRefused other fact = Unit {0}

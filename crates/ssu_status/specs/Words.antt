@@ -1,10 +1,10 @@
 -- The words of the command line: a folder, a command and its arguments. A number is written in decimal digits, without
 -- a sign and without a leading zero but in 0.
-use Rattle.std.specs.Prelude.{◌≡◌, ℕ, ◌<◌, ◌≤◌, List, [], ◌∷◌, IsTrue, codes, decimal}
+use Rattle.std.specs.Prelude.{◌≡◌, ◌≢◌, ℕ, ◌<◌, ◌≤◌, List, [], ◌∷◌, IsTrue, codes, decimal}
 use Rattle.ssu_io.specs.FileName.{is_file_name}
 use Rattle.ssu_status.specs.declared.command.Command.{Command}
 use Rattle.ssu_status.specs.declared.command.Command.TheVariants.{Hear, Load, Find, Show, Build, Blank, Format, Boot}
-use Rattle.ssu_status.specs.declared.command.Command.TheVariants.{Replay, Air}
+use Rattle.ssu_status.specs.declared.command.Command.TheVariants.{Replay, Air, Audit, AuditWithNotice, Sample}
 
 -- What the words ask for. A file is given by its name.
 pub data Task : Type 0 where
@@ -18,6 +18,9 @@ pub data Task : Type 0 where
   ToBoot : Task
   ToReplay : Task
   ToAir : Task
+  ToAudit : ℕ → Task
+  ToAuditWithNotice : ℕ → ℕ → Task
+  ToSample : ℕ → Task
 
 abbrev pub task_of : Command → Task
 task_of (Hear pid) = ToHear pid
@@ -30,6 +33,9 @@ task_of (Format name) = ToFormat name.bytes
 task_of Boot = ToBoot
 task_of Replay = ToReplay
 task_of Air = ToAir
+task_of (Audit pid) = ToAudit pid
+task_of (AuditWithNotice pid notice) = ToAuditWithNotice pid notice
+task_of (Sample number) = ToSample number
 
 -- the words behind the folder
 abbrev pub words_of : Task → List (List ℕ)
@@ -43,8 +49,12 @@ words_of (ToFormat name) = codes "format" ∷ name ∷ []
 words_of ToBoot = codes "boot" ∷ []
 words_of ToReplay = codes "replay" ∷ []
 words_of ToAir = codes "air" ∷ []
+words_of (ToAudit pid) = codes "audit" ∷ decimal pid ∷ []
+words_of (ToAuditWithNotice pid notice) = codes "audit" ∷ decimal pid ∷ decimal notice ∷ []
+words_of (ToSample number) = codes "sample" ∷ decimal number ∷ []
 
--- PIDs are below 8192, a flash has 4 to 65,536 blocks, and the name of a file has its form.
+-- PIDs are below 8192, a flash has 4 to 65,536 blocks, the number of a sample is at most 999,999, and the name of a file has its
+-- form. A notice is not on the PID of its carousel.
 abbrev pub IsInRange : Task → Type 0
 IsInRange (ToHear pid) = pid < 8192
 IsInRange (ToLoad pid) = pid < 8192
@@ -56,6 +66,9 @@ IsInRange (ToFormat name) = IsTrue (is_file_name name)
 IsInRange ToBoot = Unit {0}
 IsInRange ToReplay = Unit {0}
 IsInRange ToAir = Unit {0}
+IsInRange (ToAudit pid) = pid < 8192
+IsInRange (ToAuditWithNotice pid notice) = (pid < 8192) × ((notice < 8192) × (pid ≢ notice))
+IsInRange (ToSample number) = number ≤ 999999
 
 -- the words are a folder and what asks for this
 pub record IsCommandLine (words : List (List ℕ)) (task : Task) : Type 0 where
@@ -75,6 +88,9 @@ file_made_by (ToFormat name) = []
 file_made_by ToBoot = codes "image.bin"
 file_made_by ToReplay = []
 file_made_by ToAir = codes "aired.ts"
+file_made_by (ToAudit pid) = []
+file_made_by (ToAuditWithNotice pid notice) = []
+file_made_by (ToSample number) = []
 
 -- the words are a command line that makes this file, or they make none
 pub record MakesFile (words : List (List ℕ)) (name : List ℕ) : Type 0 where

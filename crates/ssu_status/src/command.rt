@@ -1,5 +1,5 @@
 //! The words of the command line.
-ghost use Rattle.std.specs.Prelude.{◌≡◌, ◌<◌, ◌≤◌, ℕ, List, [], ◌∷◌, map, string_bytes, decimal, length, Some, IfSome};
+ghost use Rattle.std.specs.Prelude.{◌≡◌, ◌<◌, ◌≤◌, ℕ, List, [], ◌∷◌, map, string_bytes, decimal, length, Some, IfSome, codes};
 ghost use Rattle.std.specs.Prelude.{IsTrue, option_map};
 ghost use Rattle.ssu_io.specs.FileName.{is_file_name};
 ghost use Rattle.ssu_status.specs.Words.{IsCommandLine, IsInRange, MakesFile, Task, words_of, file_made_by, task_of};
@@ -32,6 +32,12 @@ pub enum Command {
     Replay,
     /// `air`: the packets of `air.ts` through a script.
     Air,
+    /// `audit PID`: the carousel on a PID, before it goes on air.
+    Audit(Pid),
+    /// `audit PID NOTICE`: the same, with its notice on another PID.
+    AuditWithNotice(Pid, Pid),
+    /// `sample N`: a broadcast that is made of a number of 0 to 999,999, in memory.
+    Sample(u32),
 }
 
 impl Command {
@@ -44,6 +50,7 @@ impl Command {
         match words {
             [_, command] => alone(command),
             [_, command, argument] => with_argument(command, argument),
+            [_, command, first, second] => with_two(command, first, second),
             _ => None,
         }
     }
@@ -57,7 +64,10 @@ impl Command {
             | Command::Find
             | Command::Show
             | Command::Format(_)
-            | Command::Replay => FileName::new(),
+            | Command::Replay
+            | Command::Audit(_)
+            | Command::AuditWithNotice(_, _)
+            | Command::Sample(_) => FileName::new(),
             Command::Load(_) => named("group.bin"),
             Command::Build => named("air.ts"),
             Command::Blank(_) => named("flash.bin"),
@@ -102,8 +112,34 @@ fn with_argument(command: &str, argument: &str) -> Option<Command>
         "load" => Some(Command::Load(pid(argument)?)),
         "blank" => Some(Command::Blank(blocks(argument)?)),
         "format" => Some(Command::Format(file(argument)?)),
+        "audit" => Some(Command::Audit(pid(argument)?)),
+        "sample" => Some(Command::Sample(number(argument, 999_999)?)),
         _ => None,
     }
+}
+
+fn with_two(command: &str, first: &str, second: &str) -> Option<Command>
+    ensures spelled { IfSome result (λ c. words_of (task_of c) ≡ command.now ∷ first.now ∷ second.now ∷ []) }
+    ensures in_range { IfSome result (λ c. IsInRange (task_of c)) }
+    ensures only { (t : Task) → IsInRange t → words_of t ≡ command.now ∷ first.now ∷ second.now ∷ [] → option_map task_of result ≡ Some t }
+{
+    match command {
+        "audit" => with_notice(first, second),
+        _ => None,
+    }
+}
+
+fn with_notice(first: &str, second: &str) -> Option<Command>
+    ensures spelled { IfSome result (λ c. words_of (task_of c) ≡ codes "audit" ∷ first.now ∷ second.now ∷ []) }
+    ensures in_range { IfSome result (λ c. IsInRange (task_of c)) }
+    ensures only { (t : Task) → IsInRange t → words_of t ≡ codes "audit" ∷ first.now ∷ second.now ∷ [] → option_map task_of result ≡ Some t }
+{
+    let carousel = pid(first)?;
+    let notice = pid(second)?;
+    if carousel == notice {
+        return None;
+    }
+    Some(Command::AuditWithNotice(carousel, notice))
 }
 
 fn pid(word: &str) -> Option<Pid>

@@ -5,6 +5,7 @@ mod command;
 mod number;
 mod status;
 
+pub use audit_answer::{AuditNo, AuditYes};
 pub use command::{Command, made_file};
 pub use ssu_answer::{BuildFault, Chosen, FileName, Level};
 pub use status::{Status, Text};

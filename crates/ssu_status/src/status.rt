@@ -3,6 +3,7 @@ ghost use Rattle.std.specs.Prelude.{◌≡◌, ◌+◌, ◌≤◌, ◌++◌, dec
 ghost use Rattle.ssu_status.specs.Status.{code_of, refusal_text, status_of, text_of};
 
 use arrayvec::ArrayString;
+use audit_answer::AuditNo;
 use itoa::Buffer;
 use ssu_answer::{BuildFault, Chosen, FileName, Level, Verdict};
 use toml_fields::FieldName;
@@ -53,6 +54,8 @@ pub enum Status {
     Unsettled,
     /// The sections of the plan are not made.
     BuildRefused(BuildFault),
+    /// The first fact against the stream that was audited.
+    AuditRefused(AuditNo),
 }
 
 impl Status {
@@ -94,6 +97,7 @@ impl Status {
             Status::ShelfFault => 18,
             Status::Unsettled => 19,
             Status::BuildRefused(_) => 20,
+            Status::AuditRefused(_) => 21,
         }
     }
 
@@ -122,7 +126,8 @@ impl Status {
             | Status::Nothing(_)
             | Status::Incomplete(_, _)
             | Status::BadModule(_, _, _)
-            | Status::Unsettled => text(""),
+            | Status::Unsettled
+            | Status::AuditRefused(_) => text(""),
         }
     }
 }

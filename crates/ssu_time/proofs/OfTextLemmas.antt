@@ -5,9 +5,8 @@ use Rattle.std.proofs.lemmas.Slice.Eq.{bytes_eq-Decides}
 use Rattle.std.specs.Str.{bytes_eq}
 use Rattle.std.specs.Option.{IfSome}
 use Rattle.ssu_time.specs.Calendar.{days_before, days_in_month}
-use Rattle.ssu_time.specs.CivilText.{civil_text, IsTextOf}
+use Rattle.ssu_time.specs.CivilText.{civil_text, IsTextOf, time_at, civil_of, is_day, is_clock, days_before_mjd}
 use Rattle.ssu_time.specs.declared.utc_time.Utc.{Utc}
-use Rattle.ssu_time.specs.OfText.{time_at, civil_of, is_day, is_clock, days_before_mjd}
 use Rattle.ssu_time.specs.UtcField.{TimeFields, time_view}
 
 time_at-same : (text : List ℕ) (a b c d e f y m day h i s : ℕ) → a ≡ y → b ≡ m → c ≡ day → d ≡ h → e ≡ i → f ≡ s → time_at text a b c d e f ≡ time_at text y m day h i s

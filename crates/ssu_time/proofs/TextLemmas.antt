@@ -1,8 +1,7 @@
 -- A text of 19 characters is its characters one by one.
 use Rattle.std.proofs.Common.{◌≡◌, ℕ, zero, suc, ◌+◌, ◌≤◌, ◌<◌, List, [], ◌∷◌, length, get_or, drop, refl, sym, arith, drop-cons, length-drop}
 use Rattle.ssu_time.specs.Calendar.{days_in_month}
-use Rattle.ssu_time.specs.CivilText.{IsTextOf}
-use Rattle.ssu_time.specs.Parts.{AreSmall}
+use Rattle.ssu_time.specs.CivilText.{IsTextOf, AreSmall}
 use Rattle.ssu_time.specs.declared.civil_time.Parts.{Parts}
 
 abbrev pub places : List ℕ → ℕ → ℕ → List ℕ

@@ -4,9 +4,7 @@ ghost use Rattle.std.specs.Prelude.{◌≡◌, ℕ, ◌+◌, ◌*◌, ◌/◌, �
 ghost use Rattle.std.specs.Option.{option_map};
 ghost use Rattle.jiff.specs.Words.{epoch_day};
 ghost use Rattle.ssu_time.specs.Calendar.{IsDate, IsMjd};
-ghost use Rattle.ssu_time.specs.CivilText.{IsTextOf, two_digits as two_digits_lem};
-ghost use Rattle.ssu_time.specs.OfText.{civil_of};
-ghost use Rattle.ssu_time.specs.Parts.{AreSmall, HasMarks, IsNumberAt, parts_text};
+ghost use Rattle.ssu_time.specs.CivilText.{IsTextOf, two_digits as two_digits_lem, AreSmall, HasMarks, IsNumberAt, parts_text, civil_of};
 ghost use Rattle.ssu_time.specs.TimeText.{time_text};
 ghost use Rattle.ssu_time.specs.UtcField.{time_view};
 ghost use Rattle.ssu_time.specs.declared.civil_time.Parts.{Parts};

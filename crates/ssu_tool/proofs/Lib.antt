@@ -1,0 +1,2 @@
+pub mod SparedLemmas
+pub mod SparesLemmas

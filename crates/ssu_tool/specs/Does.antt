@@ -1,10 +1,12 @@
 -- What each command does, by what the words ask for. An object that a command has no use for is as it was. The places of a
 -- group that `replay` collects are staged in the spare bank.
-use Rattle.std.specs.Prelude.{true, false}
+use Rattle.std.specs.Prelude.{true, false, Some, None}
 use Rattle.flash_bank.specs.Seen.{FlashSeen}
 use Rattle.ssu_io.specs.Seen.{ShelfSeen, SinkSeen, SourceSeen}
 use Rattle.ssu_status.specs.declared.status.Status.{Status}
 use Rattle.ssu_status.specs.Words.{Task, ToHear, ToLoad, ToFind, ToShow, ToBuild, ToBlank, ToFormat, ToBoot, ToReplay, ToAir}
+use Rattle.ssu_status.specs.Words.{ToAudit, ToAuditWithNotice}
+use Rattle.ssu_status.specs.Words.{ToSample}
 use Rattle.tool_hear.specs.Does.{HearDoes}
 use Rattle.tool_load.specs.Does.{LoadDoes}
 use Rattle.tool_find.specs.Does.{FindDoes}
@@ -12,6 +14,8 @@ use Rattle.tool_build.specs.Does.{BuildDoes}
 use Rattle.tool_flash.specs.Does.{BlankDoes, BootDoes, FormatDoes}
 use Rattle.tool_replay.specs.Replay.{Replays}
 use Rattle.tool_air.specs.Does.{AirDoes}
+use Rattle.tool_audit.specs.Does.{AuditDoes}
+use Rattle.tool_sample.specs.Does.{SampleDoes}
 
 abbrev pub Does : Task → Status → ShelfSeen → SourceSeen → FlashSeen → SinkSeen → SinkSeen → Type 0
 Does (ToHear pid) result shelf air flash made out =
@@ -34,3 +38,9 @@ Does ToReplay result shelf air flash made out =
     Replays true result shelf air flash out × made.same
 Does ToAir result shelf air flash made out =
     AirDoes result shelf air made out × flash.same
+Does (ToAudit pid) result shelf air flash made out =
+    AuditDoes pid None result air out × (shelf.same × (flash.same × made.same))
+Does (ToAuditWithNotice pid notice) result shelf air flash made out =
+    AuditDoes pid (Some notice) result air out × (shelf.same × (flash.same × made.same))
+Does (ToSample number) result shelf air flash made out =
+    SampleDoes number result out × (shelf.same × (air.same × (flash.same × made.same)))

@@ -3,7 +3,7 @@ ghost use Rattle.std.specs.Prelude.{◌≡◌, map, string_bytes};
 ghost use Rattle.flash_bank.specs.Seen.{flash_seen};
 ghost use Rattle.ssu_io.specs.Seen.{shelf_seen, sink_seen, source_seen};
 ghost use Rattle.ssu_status.specs.Status.{OnUsage};
-ghost use Rattle.ssu_status.specs.Words.{IsCommandLine, Task, task_of};
+ghost use Rattle.ssu_status.specs.Words.{IsCommandLine, IsInRange, Task, task_of};
 ghost use Rattle.ssu_status.specs.declared.status.Status.TheVariants.{Usage};
 ghost use Rattle.ssu_tool.specs.Does.{Does};
 
@@ -12,19 +12,22 @@ use flash_stage::BankStage;
 use ssu_io::{Shelf, Sink, Source};
 use ssu_status::{Command, Status};
 use std::alloc::Global;
+use tool_audit::audit;
 use tool_build::build;
 use tool_find::{find, show};
 use tool_flash::{blank, boot, format};
 use tool_hear::hear;
 use tool_load::load;
 use tool_replay::replay;
+use tool_sample::sample;
 
 /// Does what the words ask for, with the files of `shelf`, the packets of `air` and the flash. What a command makes goes into
 /// `made`, and what it prints into `out`.
 ///
 /// The words are the folder, a command and its arguments: `hear PID`, `load PID`, `find`, `show`, `build`, `blank N`,
-/// `format FILE`, `boot`, `replay` or `air`, with a PID of 0 to 8191 and an N of 4 to 65,536. `Usage` comes exactly where they are
-/// none of these, and the other answers as each command gives them.
+/// `format FILE`, `boot`, `replay`, `air`, `audit PID`, `audit PID NOTICE` or `sample N`, with a PID and another NOTICE of 0 to 8191, and an N of
+/// 4 to 65,536 for `blank` and of 0 to 999,999 for `sample`. `Usage` comes exactly where they are none of these, and the other answers as each
+/// command gives them.
 pub fn run<H: Shelf, A: Source, F: Flash, W: Sink, T: Sink>(
     alloc: Global,
     words: &[String],
@@ -55,7 +58,7 @@ pub fn run<H: Shelf, A: Source, F: Flash, W: Sink, T: Sink>(
 }
 
 /// Does what the command asks for.
-fn dispatch<H: Shelf, A: Source, F: Flash, W: Sink, T: Sink>(
+pub(crate) fn dispatch<H: Shelf, A: Source, F: Flash, W: Sink, T: Sink>(
     alloc: Global,
     command: Command,
     shelf: &mut H,
@@ -64,6 +67,7 @@ fn dispatch<H: Shelf, A: Source, F: Flash, W: Sink, T: Sink>(
     made: &mut W,
     out: &mut T,
 ) -> Status
+    requires { IsInRange (task_of command) }
     ensures no_usage { OnUsage result ⊥ }
     ensures does { Does (task_of command) result
         (shelf_seen H.Shelf shelf.old shelf.new) (source_seen A.Source air.old air.new)
@@ -80,5 +84,8 @@ fn dispatch<H: Shelf, A: Source, F: Flash, W: Sink, T: Sink>(
         Command::Boot => boot(flash, made, out),
         Command::Replay => replay::<H, A, F, T, BankStage>(alloc, shelf, air, flash, out),
         Command::Air => tool_air::air(alloc, shelf, air, made, out),
+        Command::Audit(pid) => audit(alloc, pid, None, air, out),
+        Command::AuditWithNotice(pid, notice) => audit(alloc, pid, Some(notice), air, out),
+        Command::Sample(number) => sample(alloc, number, out),
     }
 }

@@ -2,7 +2,7 @@
 use Rattle.std.proofs.Common.{◌≡◌, ℕ, ◌*◌, ◌/◌, ◌%◌, ◌<◌, ◌^◌, Bool, true, false, cond, eqb, [], ◌++◌, refl, arith}
 use Rattle.std.proofs.lemmas.Bool.{eqb-true}
 use Rattle.si_desc.proofs.Puts.{desc_put}
-use Rattle.si_desc.specs.Descriptors.{subgroup_association}
+use Rattle.si_desc.specs.Descriptors.{IsDescriptor, subgroup_association}
 use Rattle.ssu_time.specs.UtcField.{time_view}
 use Rattle.ssu_time.specs.UtcTime.{utc_bytes}
 use Rattle.ssu_time.specs.declared.utc_time.Utc.{Utc}
@@ -11,7 +11,7 @@ use Rattle.wire.proofs.Laws.{pair_put}
 use Rattle.wire.specs.Number.{bytes_of}
 use Rattle.wire.proofs.Numbers.{number1_put, number2_put, number5_put}
 use Rattle.ssu_unt.specs.Descriptors.{scheduling, turns_if, update_flag, location}
-use Rattle.ssu_unt.specs.Announced.{IsLocation, IsScheduling, IsSubgroup, IsUpdate, flag_for, hours_by_turns, hours_window, location_bytes, schedule_flags, scheduling_bytes, subgroup_bytes, update_bytes}
+use Rattle.ssu_unt.specs.Announced.{flag_for, hours_by_turns, hours_window, location_bytes, schedule_flags, scheduling_bytes, subgroup_bytes, update_bytes}
 
 -- ---- scheduling
 
@@ -40,7 +40,7 @@ flags_small : (period : ℕ) → schedule_flags period < 2 ^ 8
 flags_small period = small_by (eqb period 0)
 
 pub scheduling_put : (start end : Utc) (period duration : ℕ) → start.second < 86400 → end.second < 86400 → period < 2 ^ 8 → duration < 2 ^ 8
-    → IsScheduling (hours_window start end period duration) (scheduling_bytes (utc_bytes start.mjd start.second) (utc_bytes end.mjd end.second) period duration)
+    → IsDescriptor scheduling 0x01 (hours_window start end period duration) (scheduling_bytes (utc_bytes start.mjd start.second) (utc_bytes end.mjd end.second) period duration)
 unfolding scheduling
 scheduling_put start end period duration s e p d =
     let turns = bytes_of 1 period ++ (bytes_of 1 (hours_by_turns period duration) ++ bytes_of 1 0) in
@@ -49,7 +49,7 @@ scheduling_put start end period duration s e p d =
     record {
       body = body;
       spelled = desc_put 0x01 body (omega arith) (omega arith);
-      opens = (
+      says = (
         (time_view start, (time_view end, (schedule_flags period, (period * 3600, hours_by_turns period duration * 3600)))),
         refl,
         pair_put (utc_bytes start.mjd start.second) _ (utc_put (time_view start) s) (
@@ -65,14 +65,14 @@ unfolding update_flag
 flag_put true = ((0, []), refl, pair_put (bytes_of 1 0) [] (number1_put 0 (omega arith)) refl)
 flag_put false = ((64, []), refl, pair_put (bytes_of 1 64) [] (number1_put 64 (omega arith)) refl)
 
-pub update_put : (manual : Bool) → IsUpdate (flag_for manual) (update_bytes manual)
+pub update_put : (manual : Bool) → IsDescriptor update_flag 0x02 (flag_for manual) (update_bytes manual)
 update_put manual = record {
   body = bytes_of 1 (flag_for manual * 64);
   spelled = desc_put 0x02 (bytes_of 1 (flag_for manual * 64)) (omega arith) (omega arith);
-  flagged = flag_put manual;
+  says = flag_put manual;
 }
 
-pub location_put : (tag : ℕ) → tag < 2 ^ 8 → IsLocation tag (location_bytes tag)
+pub location_put : (tag : ℕ) → tag < 2 ^ 8 → IsDescriptor location 0x03 tag (location_bytes tag)
 unfolding location
 location_put tag h =
     let behind = bytes_of 1 0 ++ bytes_of 1 tag in
@@ -80,7 +80,7 @@ location_put tag h =
     record {
       body = body;
       spelled = desc_put 0x03 body (omega arith) (omega arith);
-      leads = (
+      says = (
         (tt, ((tt, tag), [])),
         refl,
         pair_put (bytes_of 2 0x000A) _ (number2_put 0x000A (omega arith)) (
@@ -88,10 +88,10 @@ location_put tag h =
       );
     }
 
-pub subgroup_put : (number : ℕ) → number < 2 ^ 40 → IsSubgroup number (subgroup_bytes number)
+pub subgroup_put : (number : ℕ) → number < 2 ^ 40 → IsDescriptor subgroup_association 0x0B number (subgroup_bytes number)
 unfolding subgroup_association
 subgroup_put number h = record {
   body = bytes_of 5 number;
   spelled = desc_put 0x0B (bytes_of 5 number) (omega arith) (omega arith);
-  numbered = number5_put number h;
+  says = number5_put number h;
 }

@@ -1,12 +1,10 @@
 -- The descriptors of an operational loop that are written: ETSI TS 102 006 9.6. Reserved bits are ones; there are no
 -- private bytes.
 use Rattle.std.specs.Prelude.{ℕ, ◌+◌, ◌*◌, Bool, if◌then◌else◌, ◌==◌, List, ◌++◌}
-use Rattle.si_desc.specs.Descriptors.{descriptor, subgroup_association}
 use Rattle.ssu_time.specs.UtcTime.{utc_seconds}
 use Rattle.ssu_time.specs.declared.utc_time.Utc.{Utc}
 use Rattle.ssu_time.specs.declared.windows.Window.{Window}
 use Rattle.wire.specs.Number.{bytes_of}
-use Rattle.ssu_unt.specs.Descriptors.{scheduling, update_flag, location}
 
 -- ---- scheduling
 
@@ -37,12 +35,6 @@ hours_window start end period duration = record {
   duration = hours_by_turns period duration * 3600;
 }
 
--- The bytes are a scheduling descriptor of that window.
-pub record IsScheduling (window : Window) (bytes : List ℕ) : Type 0 where
-  pub body : List ℕ
-  pub spelled : descriptor.Spells (record { tag = 0x01; body = body }) bytes
-  pub opens : scheduling.Spells window body
-
 -- ---- update
 
 -- 0 where a user has to ask for the update
@@ -53,12 +45,6 @@ flag_for manual = if manual then 0 else 1
 abbrev pub update_bytes : Bool → List ℕ
 update_bytes manual = bytes_of 1 0x02 ++ (bytes_of 1 1 ++ bytes_of 1 (flag_for manual * 64))
 
--- The bytes are an update descriptor of that flag.
-pub record IsUpdate (flag : ℕ) (bytes : List ℕ) : Type 0 where
-  pub body : List ℕ
-  pub spelled : descriptor.Spells (record { tag = 0x02; body = body }) bytes
-  pub flagged : update_flag.Spells flag body
-
 -- ---- ssu_location
 
 -- tag 0x03, 4 bytes: data_broadcast_id 0x000A; association_tag 16 with a high byte of 0
@@ -68,20 +54,8 @@ location_bytes tag =
     bytes_of 2 0x000A ++ (
     bytes_of 1 0 ++ bytes_of 1 tag)))
 
--- The bytes are an ssu_location descriptor that leads to the component of that tag.
-pub record IsLocation (tag : ℕ) (bytes : List ℕ) : Type 0 where
-  pub body : List ℕ
-  pub spelled : descriptor.Spells (record { tag = 0x03; body = body }) bytes
-  pub leads : location.Spells tag body
-
 -- ---- ssu_subgroup_association
 
 -- tag 0x0B, 5 bytes
 abbrev pub subgroup_bytes : ℕ → List ℕ
 subgroup_bytes number = bytes_of 1 0x0B ++ (bytes_of 1 5 ++ bytes_of 5 number)
-
--- The bytes are an ssu_subgroup_association descriptor of that number.
-pub record IsSubgroup (number : ℕ) (bytes : List ℕ) : Type 0 where
-  pub body : List ℕ
-  pub spelled : descriptor.Spells (record { tag = 0x0B; body = body }) bytes
-  pub numbered : subgroup_association.Spells number body

@@ -12,9 +12,6 @@ use Rattle.wire.specs.Number.{number, number_of}
 abbrev pub unit_seconds : ℕ → ℕ
 unit_seconds unit = if unit == 0 then 1 else (if unit == 1 then 60 else (if unit == 2 then 3600 else 86400))
 
-abbrev pub no_turns : List ℕ → ℕ × ℕ
-no_turns _ = (0, 0)
-
 abbrev pub turns_fields : ℕ → (ℕ × (ℕ × ℕ)) × List ℕ → ℕ × ℕ
 turns_fields flags x = (x.0.0 * unit_seconds (flags / 16 % 4), x.0.1.0 * unit_seconds (flags / 4 % 4))
 
@@ -23,7 +20,7 @@ abbrev pub turns_if : Bool → ℕ → Whole (ℕ × ℕ)
 turns_if true flags = whole_reads (turns_fields flags) (
     (number 1 & number 1 & number 1) then λ _.
     rest)
-turns_if false flags = whole_reads no_turns rest
+turns_if false flags = whole_reads (λ _. (0, 0)) rest
 
 abbrev pub window_fields : TimeFields × (TimeFields × (ℕ × (ℕ × ℕ))) → Window
 window_fields x = record { start = seconds_of x.0; end = seconds_of x.1.0; period = x.1.1.1.0; duration = x.1.1.1.1 }
@@ -46,23 +43,17 @@ window_of bytes = unwrap_or (scheduling.of bytes) never
 
 -- ---- update, tag 0x02: update_flag 2, update_method 4, update_priority 2; private bytes
 
-abbrev pub flag_of : ℕ × List ℕ → ℕ
-flag_of x = x.0 / 64
-
 unfoldable pub update_flag : Whole ℕ
-update_flag = whole_reads flag_of (
+update_flag = whole_reads (λ x. x.0 / 64) (
     number 1 then λ _.
     rest)
 
 -- ---- ssu_location, tag 0x03
 
-abbrev pub tag_in : Unit {0} × ((Unit {0} × ℕ) × List ℕ) → ℕ
-tag_in x = x.1.0.1
-
 -- data_broadcast_id 16, which is 0x000A; association_tag 16, whose high byte is 0 and whose low byte
 -- is a component tag; private bytes
 unfoldable pub location : Whole ℕ
-location = whole_reads tag_in (
+location = whole_reads (λ x. x.1.0.1) (
     fixed (number 2) 0x000A then λ _.
     (fixed (number 1) 0 & number 1) then λ _.
     rest)

@@ -12,12 +12,9 @@ pub record PairFields : Type 0 where
   pub target : List ℕ
   pub operational : List ℕ
 
-abbrev pub pair_fields : List ℕ × List ℕ → PairFields
-pair_fields x = record { target = x.0; operational = x.1 }
-
 -- target_descriptor_loop; operational_descriptor_loop
 unfoldable pub pair : Front PairFields
-pair = reads pair_fields (
+pair = reads (λ x. record { target = x.0; operational = x.1 }) (
     sized_row &
     sized_row)
 
@@ -27,12 +24,9 @@ pub record PlatformFields : Type 0 where
   pub pairs : List PairFields
   pub platform_loop : List ℕ
 
-abbrev pub platform_fields : List EntryFields × (List PairFields × List ℕ) → PlatformFields
-platform_fields x = record { compat = x.0; pairs = x.1.0; platform_loop = x.1.1 }
-
 -- compatibility descriptor; platform_loop_length 16, and pairs that fill that many bytes
 unfoldable pub platform : Front PlatformFields
-platform = reads platform_fields (
+platform = reads (λ x. record { compat = x.0; pairs = x.1.0; platform_loop = x.1.1 }) (
     compat &
     sized (number 2) (noted (to_end pair)))
 

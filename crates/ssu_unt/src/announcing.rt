@@ -1,11 +1,11 @@
 //! Writing the descriptors of an operational loop: ETSI TS 102 006, 9.6.
 
 ghost use Rattle.std.specs.Prelude.{◌≡◌, ◌*◌, ◌<◌, ◌^◌, ◌++◌, OnOk, OnErr};
-ghost use Rattle.si_desc.specs.Descriptors.{IsRow};
+ghost use Rattle.si_desc.specs.Descriptors.{IsDescriptor, IsRow, subgroup_association};
 ghost use Rattle.ssu_time.specs.UtcTime.{utc_bytes};
-ghost use Rattle.ssu_unt.specs.Announced.{IsLocation, IsScheduling, IsSubgroup, IsUpdate, flag_for, hours_by_turns};
-ghost use Rattle.ssu_unt.specs.Announced.{hours_window, location_bytes, schedule_flags, scheduling_bytes};
-ghost use Rattle.ssu_unt.specs.Announced.{subgroup_bytes, update_bytes};
+ghost use Rattle.ssu_unt.specs.Announced.{flag_for, hours_by_turns, hours_window, location_bytes, schedule_flags};
+ghost use Rattle.ssu_unt.specs.Announced.{scheduling_bytes, subgroup_bytes, update_bytes};
+ghost use Rattle.ssu_unt.specs.Descriptors.{location, scheduling, update_flag};
 
 use ssu_io::NoMemory;
 use ssu_time::{Utc, write_utc};
@@ -22,7 +22,7 @@ pub fn put_scheduling(
 ) -> Result<(), NoMemory>
     ensures put { OnOk result (out.new.items ≡ out.old.items
         ++ scheduling_bytes (utc_bytes start.mjd start.second) (utc_bytes end.mjd end.second) period_hours duration_hours) }
-    ensures read_back { OnOk result (IsScheduling (hours_window start end period_hours duration_hours)
+    ensures read_back { OnOk result (IsDescriptor scheduling 0x01 (hours_window start end period_hours duration_hours)
         (scheduling_bytes (utc_bytes start.mjd start.second) (utc_bytes end.mjd end.second) period_hours duration_hours)) }
     ensures row { IsRow out.old.items → OnOk result (IsRow out.new.items) }
     ensures unchanged { OnErr result (out.new.items ≡ out.old.items) }
@@ -34,7 +34,7 @@ pub fn put_scheduling(
 fn scheduling_of(start: Utc, end: Utc, period_hours: u8, duration_hours: u8) -> [u8; 16]
     ensures bytes { result
         ≡ scheduling_bytes (utc_bytes start.mjd start.second) (utc_bytes end.mjd end.second) period_hours duration_hours }
-    ensures read_back { IsScheduling (hours_window start end period_hours duration_hours)
+    ensures read_back { IsDescriptor scheduling 0x01 (hours_window start end period_hours duration_hours)
         (scheduling_bytes (utc_bytes start.mjd start.second) (utc_bytes end.mjd end.second) period_hours duration_hours) }
 {
     let [s0, s1, s2, s3, s4] = write_utc(start);
@@ -79,7 +79,7 @@ fn duration_of(period_hours: u8, duration_hours: u8) -> u8
 /// was.
 pub fn put_update(out: &mut Vec<u8>, manual: bool) -> Result<(), NoMemory>
     ensures put { OnOk result (out.new.items ≡ out.old.items ++ update_bytes manual) }
-    ensures read_back { OnOk result (IsUpdate (flag_for manual) (update_bytes manual)) }
+    ensures read_back { OnOk result (IsDescriptor update_flag 0x02 (flag_for manual) (update_bytes manual)) }
     ensures row { IsRow out.old.items → OnOk result (IsRow out.new.items) }
     ensures unchanged { OnErr result (out.new.items ≡ out.old.items) }
 {
@@ -99,7 +99,7 @@ fn update_flags(manual: bool) -> u8
 /// whose high byte is 0. `NoMemory` leaves `out` as it was.
 pub fn put_ssu_location(out: &mut Vec<u8>, tag: u8) -> Result<(), NoMemory>
     ensures put { OnOk result (out.new.items ≡ out.old.items ++ location_bytes tag) }
-    ensures read_back { OnOk result (IsLocation tag (location_bytes tag)) }
+    ensures read_back { OnOk result (IsDescriptor location 0x03 tag (location_bytes tag)) }
     ensures row { IsRow out.old.items → OnOk result (IsRow out.new.items) }
     ensures unchanged { OnErr result (out.new.items ≡ out.old.items) }
 {
@@ -112,7 +112,7 @@ pub fn put_ssu_location(out: &mut Vec<u8>, tag: u8) -> Result<(), NoMemory>
 pub fn put_ssu_subgroup(out: &mut Vec<u8>, subgroup: u64) -> Result<(), NoMemory>
     requires { subgroup < 2 ^ 40 }
     ensures put { OnOk result (out.new.items ≡ out.old.items ++ subgroup_bytes subgroup) }
-    ensures read_back { OnOk result (IsSubgroup subgroup (subgroup_bytes subgroup)) }
+    ensures read_back { OnOk result (IsDescriptor subgroup_association 0x0B subgroup (subgroup_bytes subgroup)) }
     ensures row { IsRow out.old.items → OnOk result (IsRow out.new.items) }
     ensures unchanged { OnErr result (out.new.items ≡ out.old.items) }
 {
@@ -123,7 +123,7 @@ pub fn put_ssu_subgroup(out: &mut Vec<u8>, subgroup: u64) -> Result<(), NoMemory
 fn subgroup_of(subgroup: u64) -> [u8; 7]
     requires { subgroup < 2 ^ 40 }
     ensures bytes { result ≡ subgroup_bytes subgroup }
-    ensures read_back { IsSubgroup subgroup (subgroup_bytes subgroup) }
+    ensures read_back { IsDescriptor subgroup_association 0x0B subgroup (subgroup_bytes subgroup) }
 {
     let [_, _, _, a, b, c, d, e] = subgroup.to_be_bytes();
     [0x0B, 5, a, b, c, d, e]

@@ -4,7 +4,7 @@ use Rattle.std.specs.Str.{IsUtf8, is_utf8}
 use Rattle.std.proofs.lemmas.Bool.{cases_Bool}
 use Rattle.std.proofs.lemmas.Str.{IsUtf8-from_is_utf8, is_utf8-from_IsUtf8}
 use Rattle.toml.specs.Parse.{parse_document}
-use Rattle.toml_fields.specs.Document.{document_of}
+use Rattle.toml_fields.specs.Reading.{document_of}
 
 pub document_of-utf8 : (bytes text : List ℕ) → text ≡ bytes → IsUtf8 bytes → document_of bytes ≡ parse_document text
 document_of-utf8 bytes text same utf8 = rw (is_utf8-from_IsUtf8 bytes utf8, same)

@@ -1,6 +1,9 @@
 -- What is read from a file: a value, or the name of the first bad field.
-use Rattle.std.specs.Prelude.{ℕ, List, ◌++◌, codes, decimal, Option, Some, None, option_map, Result, Ok, Err}
+use Rattle.std.specs.Prelude.{ℕ, List, ◌++◌, codes, decimal, Option, Some, None, option_map, Result, Ok, Err, if◌then◌else◌}
 use Rattle.arrayvec.specs.ArrayString.{ArrayString}
+use Rattle.std.specs.Str.{is_utf8}
+use Rattle.toml.specs.Data.{Members}
+use Rattle.toml.specs.Parse.{parse_document}
 
 -- a value, or the name of the first bad field
 abbrev pub Reading : Type 0 → Type 0
@@ -34,3 +37,7 @@ named = seen (λ x. x)
 -- what stands before the names of the fields of an array's table at an index, as group.0.
 abbrev pub item_prefix : List ℕ → ℕ → List ℕ
 item_prefix array index = array ++ codes "." ++ decimal index ++ codes "."
+
+-- the table of a text in UTF-8 that is a TOML document
+abbrev pub document_of : List ℕ → Option Members
+document_of text = if is_utf8 text then parse_document text else None

@@ -1,7 +1,7 @@
 //! A file's text as a TOML document.
 ghost use Rattle.std.specs.Prelude.{◌≡◌, Some, None, IfOk, IsErrOf};
 ghost use Rattle.toml.specs.View.{table_view};
-ghost use Rattle.toml_fields.specs.Document.{document_of};
+ghost use Rattle.toml_fields.specs.Reading.{document_of};
 
 use std::alloc::Global;
 use thiserror::Error;

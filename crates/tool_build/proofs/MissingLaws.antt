@@ -11,7 +11,7 @@ use Rattle.arrayvec.specs.ArrayString.{ArrayString}
 use Rattle.tool_box.specs.Fetching.{HasNone, IsAbsent, IsFetchRefusal, IsValueOrFails, Lacks, SaysAbsent, SaysAbsentOrFails, TellsAbsence}
 use Rattle.tool_box.proofs.FetchLaws.{one_text}
 use Rattle.tool_build.specs.Held.{HasEach, IsFirstMissing, TellsPlan, plan_name}
-use Rattle.tool_build.specs.Refusals.{IsTextRefusal}
+use Rattle.tool_build.specs.Building.{IsTextRefusal}
 
 -- ---- one file more
 

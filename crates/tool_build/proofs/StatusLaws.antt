@@ -4,8 +4,7 @@ use Rattle.std.specs.Prelude.{ℕ, List}
 use Rattle.ssu_status.specs.Status.{OnAbsent, OnBuildRefused, OnPlanRefused, OnShelfFault, OnWriteFault}
 use Rattle.ssu_status.specs.declared.status.Status.{Status}
 use Rattle.ssu_status.specs.declared.status.Status.TheVariants.{Absent, BuildRefused, NoMemory, PlanRefused, ShelfFault, WriteFault}
-use Rattle.tool_build.specs.Building.{IsAnswer, IsPutAnswer, IsUnrefused}
-use Rattle.tool_build.specs.Refusals.{IsMakingRefusal}
+use Rattle.tool_build.specs.Building.{IsAnswer, IsPutAnswer, IsUnrefused, IsMakingRefusal}
 
 -- what follows of a write fault
 pub write_fault_map : {P R : Type 0} (s : Status) → (P → R) → OnWriteFault s P → OnWriteFault s R

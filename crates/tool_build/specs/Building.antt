@@ -10,9 +10,13 @@ use Rattle.ssu_line.specs.Lines.{built_line}
 use Rattle.ssu_io.specs.Files.{File}
 use Rattle.ssu_io.specs.Seen.{SinkSeen, StopsWriting}
 use Rattle.ssu_status.specs.declared.status.Status.{Status}
-use Rattle.ssu_status.specs.declared.status.Status.TheVariants.{Done, Absent, ShelfFault, PlanRefused, BuildRefused}
-use Rattle.ssu_status.specs.declared.status.Status.TheVariants.{WriteFault, NoMemory}
+use Rattle.ssu_status.specs.declared.status.Status.TheVariants.{Done, Absent, ShelfFault, PlanRefused, BuildRefused, WriteFault, NoMemory}
+use Rattle.tool_box.specs.Fetching.{IsFetchRefusal}
 use Rattle.tool_build.specs.Held.{TellsBroadcast}
+use Rattle.head_plan.specs.declared.fault.PlanFault.{PlanFault}
+use Rattle.head_plan.specs.declared.fault.PlanFault.TheVariants.{Field, Memory}
+use Rattle.ssu_answer.specs.declared.build_fault.BuildFault.{BuildFault}
+use Rattle.ssu_answer.specs.declared.build_fault.BuildFault.TheVariants.{ImageTooLong, TooManySections, Memory as BuildMemory}
 
 -- the packets of all turns
 abbrev pub packets_of : PlanData → List (List ℕ) → List (List ℕ)
@@ -65,3 +69,37 @@ abbrev pub IsUnrefused : Status → Type 0
 IsUnrefused Done = Unit {0}
 IsUnrefused NoMemory = Unit {0}
 IsUnrefused other = ⊥
+
+-- ---- why a part of the work was not done
+
+-- a plan was not had for one of these reasons
+abbrev pub IsPlanRefusal : Status → Type 0
+IsPlanRefusal (PlanRefused field) = Unit {0}
+IsPlanRefusal other = IsFetchRefusal other
+
+-- the text gave no plan for one of these reasons
+abbrev pub IsTextRefusal : Status → Type 0
+IsTextRefusal (PlanRefused field) = Unit {0}
+IsTextRefusal NoMemory = Unit {0}
+IsTextRefusal other = ⊥
+
+abbrev pub text_refusal : PlanFault → Status
+text_refusal (Field field) = PlanRefused field
+text_refusal Memory = NoMemory
+
+-- the sections were not made for one of these reasons
+abbrev pub IsMakingRefusal : Status → Type 0
+IsMakingRefusal (BuildRefused fault) = Unit {0}
+IsMakingRefusal NoMemory = Unit {0}
+IsMakingRefusal other = ⊥
+
+abbrev pub making_refusal : BuildFault → Status
+making_refusal (ImageTooLong name) = BuildRefused (ImageTooLong name)
+making_refusal (TooManySections count) = BuildRefused (TooManySections count)
+making_refusal BuildMemory = NoMemory
+
+-- the packets were not sent for one of these reasons
+abbrev pub IsSendingRefusal : Status → Type 0
+IsSendingRefusal WriteFault = Unit {0}
+IsSendingRefusal NoMemory = Unit {0}
+IsSendingRefusal other = ⊥

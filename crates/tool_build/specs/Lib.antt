@@ -1,4 +1,3 @@
 pub mod Building
 pub mod Does
 pub mod Held
-pub mod Refusals

@@ -15,9 +15,9 @@ ghost use Rattle.ssu_status.specs.Status.{OnAbsent, OnBuildRefused, OnDone, OnNo
 ghost use Rattle.ssu_status.specs.Status.{OnWriteFault};
 ghost use Rattle.tool_box.specs.Fetching.{HasNone, IsErrWith, Lacks, SaysAbsent, SaysAbsentOrFails};
 ghost use Rattle.tool_build.specs.Building.{ForBroadcast, IsEarly, IsPutAnswer, IsUnrefused, PutsAll, PutsPart};
+ghost use Rattle.tool_build.specs.Building.{IsMakingRefusal, IsPlanRefusal, IsSendingRefusal, making_refusal};
 ghost use Rattle.tool_build.specs.Does.{BuildDoes};
 ghost use Rattle.tool_build.specs.Held.{IsLimit, LacksMention, RefusesBuild, RefusesPlan, TellsBroadcast, plan_name};
-ghost use Rattle.tool_build.specs.Refusals.{IsMakingRefusal, IsPlanRefusal, IsSendingRefusal, making_refusal};
 
 use crate::images::read_images;
 use crate::plan_text::read_plan;

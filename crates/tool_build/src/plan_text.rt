@@ -6,7 +6,7 @@ ghost use Rattle.ssu_io.specs.Faults.{Rose};
 ghost use Rattle.ssu_status.specs.Status.{OnAbsent, OnPlanRefused, OnShelfFault};
 ghost use Rattle.tool_box.specs.Fetching.{IsValueOrFails, TellsAbsence};
 ghost use Rattle.tool_build.specs.Held.{RefusesPlan, TellsPlan, plan_name as name_of_plan};
-ghost use Rattle.tool_build.specs.Refusals.{IsPlanRefusal, IsTextRefusal, text_refusal};
+ghost use Rattle.tool_build.specs.Building.{IsPlanRefusal, IsTextRefusal, text_refusal};
 
 use head_plan::{Plan, PlanFault};
 use ssu_answer::FileName;

@@ -13,8 +13,7 @@ use Rattle.ts_input.specs.SoFar.{SoFar}
 use Rattle.ts_input.proofs.Runs.{begin, step, step_failed, flushed_longer, run_ended, run_failed}
 use Rattle.route_tables.specs.Values.{Receiver}
 use Rattle.ssu_route.specs.Queries.{followed}
-use Rattle.tool_find.specs.Lines.{lines_for, lines_if, heard_lines, levels_lines, text_of, whole_text}
-use Rattle.tool_find.specs.Ways.{Walks}
+use Rattle.tool_find.specs.Lines.{lines_for, lines_if, heard_lines, levels_lines, text_of, whole_text, Walks}
 use Rattle.tool_find.specs.declared.walk.Walk.{Walk}
 
 text_none : (shows : Bool) (me : Receiver) → text_of shows me [] ≡ []

@@ -2,21 +2,14 @@
 use Rattle.std.specs.Prelude.{◌≡◌, ◌⊎◌, ℕ, Bool, true, List, Option}
 use Rattle.box_file.specs.declared.file.BoxFile.{BoxFile}
 use Rattle.ssu_io.specs.Files.{File}
+use Rattle.ssu_status.specs.Answers.{IsEndOfInput}
 use Rattle.ssu_status.specs.declared.status.Status.{Status}
-use Rattle.ssu_status.specs.declared.status.Status.TheVariants.{Done, BoxRefused, Absent, ReadFault, WriteFault}
-use Rattle.ssu_status.specs.declared.status.Status.TheVariants.{TooLong, NoMemory, ShelfFault}
+use Rattle.ssu_status.specs.declared.status.Status.TheVariants.{BoxRefused, Absent, WriteFault, NoMemory, ShelfFault}
 use Rattle.ts_input.specs.Puts.{PutsPrefix}
 use Rattle.tool_box.specs.Boxes.{TellsBox}
 use Rattle.route_tables.specs.Values.{Receiver}
 use Rattle.ts_input.specs.Packets.{IsAtEnd}
 use Rattle.tool_find.specs.Lines.{receiver_of, text_of, whole_text}
-
--- how a walk over the packets of an input ends: these statuses and no others
-abbrev pub IsEndOfWalk : Status → Type 0
-IsEndOfWalk Done = Unit {0}
-IsEndOfWalk ReadFault = Unit {0}
-IsEndOfWalk TooLong = Unit {0}
-IsEndOfWalk other = ⊥
 
 -- what the commands answer, and nothing else
 abbrev pub IsAnswer : Status → Type 0
@@ -25,7 +18,7 @@ IsAnswer (Absent name) = Unit {0}
 IsAnswer WriteFault = Unit {0}
 IsAnswer NoMemory = Unit {0}
 IsAnswer ShelfFault = Unit {0}
-IsAnswer other = IsEndOfWalk other
+IsAnswer other = IsEndOfInput other
 
 -- the fact, where no packet was taken: the box was not had, or there was no memory
 abbrev pub NoneWalked : Status → Type 0 → Type 0

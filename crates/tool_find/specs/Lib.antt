@@ -1,4 +1,3 @@
 pub mod Lines
-pub mod Ways
 pub mod Answers
 pub mod Does

@@ -1,18 +1,20 @@
 -- What `find` and `show` print of an input for a box. Lists of packets have the newest first, but in `text_of` and
 -- `whole_text`, which have the oldest first.
-use Rattle.std.specs.Prelude.{ℕ, Bool, true, false, List, [], ◌∷◌, ◌++◌, length, map, reverse, slice_index}
+use Rattle.std.specs.Prelude.{ℕ, Bool, true, false, List, [], ◌∷◌, ◌++◌, length, map, reverse, slice_index, ◌≡◌}
 use Rattle.std.specs.List.{concat}
 use Rattle.box_file.specs.declared.file.BoxFile.{BoxFile}
 use Rattle.section_kind.specs.Kinds.{kind_of}
 use Rattle.ssu_answer.specs.BankLen.{bank_len}
-use Rattle.ssu_line.specs.LevelLines.{services_line, program_line, component_line, notices_line, carousel_line}
-use Rattle.ssu_line.specs.LevelLines.{groups_line, modules_line}
+use Rattle.ssu_line.specs.LevelLines.{services_line, program_line, component_line, notices_line, carousel_line, groups_line, modules_line}
 use Rattle.ssu_line.specs.SectionLine.{shown_line}
 use Rattle.ts_packet.specs.Packet.{pid_of}
 use Rattle.ts_section.specs.Events.{Feed, heard}
 use Rattle.route_tables.specs.Values.{Receiver}
 use Rattle.ssu_route.specs.declared.report.Report.{Report}
 use Rattle.ssu_route.specs.Queries.{followed, heard_by, report}
+use Rattle.ts_section.specs.Hearing.{Hears}
+use Rattle.ssu_route.specs.Route.{Stands}
+use Rattle.tool_find.specs.declared.walk.Walk.{Walk}
 
 -- The box of the file, without a flash. The software that the file names runs on it.
 abbrev pub receiver_of : BoxFile → Receiver
@@ -61,3 +63,9 @@ text_of shows me ps = lines_if shows me (reverse ps)
 -- what is printed of an input of these packets
 unfoldable pub whole_text : Bool → Receiver → List (List ℕ) → List ℕ
 whole_text shows me ps = text_of shows me ps ++ levels_lines me (reverse ps)
+
+-- A walk over packets: the box took these packets, the newest first, and the hearer stands for them, and the route for what was heard in them.
+pub record Walks (me : Receiver) (walk : Walk) (ps : List (List ℕ)) : Type 0 where
+  pub hears : Hears walk.hearer (followed me ps)
+  pub stands : Stands me (heard_by me ps) walk.route
+  pub runs : me.running ≡ walk.running

@@ -2,8 +2,7 @@
 ghost use Rattle.std.specs.Prelude.{◌≡◌, [], false, true, IfOk};
 ghost use Rattle.ssu_io.specs.Seen.{shelf_seen, sink_seen, source_seen};
 ghost use Rattle.tool_find.specs.Does.{FindDoes};
-ghost use Rattle.tool_find.specs.Lines.{receiver_of};
-ghost use Rattle.tool_find.specs.Ways.{Walks};
+ghost use Rattle.tool_find.specs.Lines.{receiver_of, Walks};
 
 use crate::walk::Walk;
 use crate::walking::walk_all;

@@ -26,7 +26,7 @@ pub(crate) struct Walk {
 }
 
 impl Walk {
-    ghost use Rattle.tool_find.specs.Ways.{Walks};
+    ghost use Rattle.tool_find.specs.Lines.{Walks};
 
     /// The box of the file, before the first packet. All its memory is taken here.
     pub(crate) fn new(alloc: Global, file: &BoxFile) -> Result<Walk, NoMemory>

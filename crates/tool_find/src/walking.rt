@@ -3,13 +3,13 @@ ghost use Rattle.std.specs.Prelude.{◌≡◌, ◌≤◌, ◌++◌, ℕ, List, [
 ghost use Rattle.ssu_io.specs.Bytes.{Gains, GainsPrefix};
 ghost use Rattle.ssu_io.specs.Faults.{HasCause, Rose};
 ghost use Rattle.ssu_io.specs.SinkBuffer.{MovesOn};
+ghost use Rattle.ssu_status.specs.Answers.{IsEndOfInput};
 ghost use Rattle.ssu_status.specs.Status.{OnDone, OnReadFault, OnTooLong};
 ghost use Rattle.ts_input.specs.Puts.{Puts, PutsOfMost};
 ghost use Rattle.ts_input.specs.Packets.{IsAtEnd};
 ghost use Rattle.route_tables.specs.Values.{Receiver};
-ghost use Rattle.tool_find.specs.Answers.{IsEndOfWalk, PutsPart};
-ghost use Rattle.tool_find.specs.Lines.{levels_lines, lines_for, text_of, whole_text};
-ghost use Rattle.tool_find.specs.Ways.{Walks};
+ghost use Rattle.tool_find.specs.Answers.{PutsPart};
+ghost use Rattle.tool_find.specs.Lines.{levels_lines, lines_for, text_of, whole_text, Walks};
 
 use crate::lines::{put_report, put_sections};
 use crate::walk::Walk;
@@ -37,7 +37,7 @@ pub(crate) fn walk_all<A: Source, T: Sink>(
     ensures read_cause { IfOk result (λ status. OnReadFault status (Rose (A.faults air.old) (A.faults air.new))) }
     ensures too_long { (me : Receiver) → Walks me walk.old []
         → IfOk result (λ status. OnTooLong status (PutsOfMost (text_of shows me) (A.left air.old) (A.left air.new) (T.contents out.old) (T.contents out.new))) }
-    ensures status { IfOk result IsEndOfWalk }
+    ensures status { IfOk result IsEndOfInput }
     ensures write_fault { (me : Receiver) → Walks me walk.old []
         → OnErr result (PutsPart shows me (A.left air.old) (A.left air.new) (T.contents out.old) (T.contents out.new)) }
     ensures write_cause { HasCause (T.faults out.old) (T.faults out.new) result }

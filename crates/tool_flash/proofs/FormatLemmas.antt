@@ -1,6 +1,6 @@
 -- A flash that was formatted, the line of it, and the files that it was formatted with.
 use Rattle.std.proofs.Common.{◌≡◌, ℕ, List, length, ap, refl, subst, ◌∙◌}
-use Rattle.std.specs.Prelude.{Option, Some, None, IsSome, Result, Ok, Err}
+use Rattle.std.specs.Prelude.{Option, Some, None, IsSome, Ok, Err}
 use Rattle.box_file.specs.declared.file.BoxFile.{BoxFile}
 use Rattle.flash_bank.specs.Format.{Formats, first_record}
 use Rattle.flash_bank.specs.Seen.{FlashSeen}

@@ -79,7 +79,7 @@ pub record BootDoes (result : Status) (flash : FlashSeen) (made out : SinkSeen) 
   -- The contents are not sound; they are, where something was put.
   pub foreign : flash.tells → OnForeign result (IsSound flash.blocks flash.contents → ⊥)
   pub sound : flash.tells → OnTaken result (IsSound flash.blocks flash.contents)
-  pub refused : OnOpeningRefused result (made.got_after ≡ made.got)
+  pub refused : OnOpeningRefused result made.same
   -- The flash failed: nothing was made, or a prefix of the image.
   pub flash_fault : OnFlashFault result (flash.tells → MakesPrefix flash made)
   pub flash_cause : OnFlashFault result (Rose flash.faults flash.faults_after)

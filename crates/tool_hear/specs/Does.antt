@@ -3,12 +3,18 @@ use Rattle.std.specs.Prelude.{ℕ, ◌≤◌}
 use Rattle.ts_input.specs.Puts.{Puts, PutsOfMost, PutsPrefix}
 use Rattle.ssu_io.specs.Faults.{Rose}
 use Rattle.ssu_io.specs.Seen.{SinkSeen, SourceSeen}
-use Rattle.ssu_status.specs.Answers.{IsFault}
+use Rattle.ssu_status.specs.Answers.{IsEndOfInput, IsFault}
 use Rattle.ssu_status.specs.Status.{OnDone, OnReadFault, OnWriteFault, OnTooLong, OnNoMemory}
 use Rattle.ssu_status.specs.declared.status.Status.{Status}
-use Rattle.tool_hear.specs.Hear.{IsAnswer}
 use Rattle.ts_input.specs.Packets.{IsAtEnd}
 use Rattle.ts_section.specs.Events.{hear as hear_text}
+use Rattle.ssu_status.specs.declared.status.Status.TheVariants.{WriteFault, NoMemory}
+
+-- What `hear` answers, and nothing else.
+abbrev pub IsAnswer : Status → Type 0
+IsAnswer WriteFault = Unit {0}
+IsAnswer NoMemory = Unit {0}
+IsAnswer other = IsEndOfInput other
 
 pub record HearDoes (pid : ℕ) (result : Status) (air : SourceSeen) (out : SinkSeen) : Type 0 where
   -- Done: the input was read to its end, and `out` got the sections of its packets.

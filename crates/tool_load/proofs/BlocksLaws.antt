@@ -1,5 +1,5 @@
 -- What a block more leaves in the image that is collected, and what the image is once no place is missing.
-use Rattle.std.proofs.Common.{◌≡◌, ℕ, ◌<◌, Bool, true, false, ◌||◌, ◌&&◌, not, cond, eqb, List, [], ◌∷◌, Option, Some, None, refl, sym, ap, subst, ◌∙◌}
+use Rattle.std.proofs.Common.{◌≡◌, ℕ, ◌<◌, Bool, true, false, ◌||◌, cond, eqb, List, [], ◌∷◌, Option, Some, None, refl, sym, ap, subst, ◌∙◌}
 use Rattle.std.specs.Prelude.{is_some, unwrap_or}
 use Rattle.std.specs.Option.{option_or}
 use Rattle.std.proofs.lemmas.Bool.{eqb-true, eq-eqb}
@@ -12,8 +12,8 @@ use Rattle.ssu_group.specs.Map.{missing_below}
 use Rattle.ssu_group.proofs.MapLaws.{missing_same, all_marked}
 use Rattle.ssu_group.proofs.Filling.{filling-none, filling-step, brings_place}
 use Rattle.group_image.specs.Image.{Collected, is_there, missing_in, image_of, bytes_at, IsFor, IsEmpty}
-use Rattle.group_image.proofs.ImageLaws.{IsOffered, joined_image}
-use Rattle.tool_load.specs.Blocks.{Holds}
+use Rattle.group_image.proofs.ImageLaws.{joined_image}
+use Rattle.tool_load.specs.Progress.{Holds}
 
 pub holds_none : (plan : GroupPlan) (image : Collected) → IsFor plan image → IsEmpty image → Holds plan image []
 holds_none plan image is none = record {
@@ -43,9 +43,10 @@ some_or (Some b) a = refl
 pub holds_more : (plan : GroupPlan) (old new : Collected) (window : List (List ℕ)) (section : List ℕ) (d : DdbFields) (p : Place)
     → ddb.of section ≡ Some d → place_of plan d ≡ Some p
     → ((n : ℕ) → is_there new n ≡ (eqb n p.number || is_there old n))
-    → ((n : ℕ) → IsOffered plan old p d.bytes n new)
+    → ((n : ℕ) → eqb n p.number ≡ true → is_there old n ≡ false → bytes_at plan new n ≡ d.bytes)
+    → ((n : ℕ) → is_there old n ≡ true → bytes_at plan new n ≡ bytes_at plan old n)
     → Holds plan old window → Holds plan new (section ∷ window)
-holds_more plan old new window section d p e f there offered holds = record {
+holds_more plan old new window section d p e f there own kept holds = record {
   there = λ n below. by_number n below (eqb n p.number) refl;
   bytes = λ n b below g. by_filling n b below (filling plan window n) refl (sym (filling-step plan section window n) ∙ g);
 }
@@ -74,11 +75,7 @@ holds_more plan old new window section d p e f there offered holds = record {
     by_filling n b below (Some x) is g =
         let same : x ≡ b = let h : option_or (Some x) (brings plan n section) ≡ Some b = ap (λ (o : Option (List ℕ)). option_or o (brings plan n section)) (sym is) ∙ g in cc in
         let was : is_there old n ≡ true = holds.there n below ∙ ap is_some is in
-        offered n ∙ ap (λ (t : Bool). cond (eqb n p.number && not t) d.bytes (bytes_at plan old n)) was ∙ never (eqb n p.number) (bytes_at plan old n) ∙ holds.bytes n x below is ∙ same
-      where
-        never : (b : Bool) (kept : List ℕ) → cond (b && not true) d.bytes kept ≡ kept
-        never true kept = refl
-        never false kept = refl
+        kept n was ∙ holds.bytes n x below is ∙ same
     by_filling n b below None is g =
         let block : cond (eqb p.number n) (Some d.bytes) None ≡ Some b =
         sym (brought n) ∙ (let h : option_or None (brings plan n section) ≡ Some b = ap (λ (o : Option (List ℕ)). option_or o (brings plan n section)) (sym is) ∙ g in h) in
@@ -86,12 +83,22 @@ holds_more plan old new window section d p e f there offered holds = record {
         by_test (eqb p.number n) refl block was
       where
         by_test : (same : Bool) → eqb p.number n ≡ same → cond same (Some d.bytes) None ≡ Some b → is_there old n ≡ false → bytes_at plan new n ≡ b
-        by_test true own block was =
-            let is_own : eqb n p.number ≡ true = eq-eqb n p.number (sym (eqb-true p.number n own)) in
-            let same : d.bytes ≡ b = cc in
-            offered n ∙ ap (λ (t : Bool). cond (t && not (is_there old n)) d.bytes (bytes_at plan old n)) is_own
-            ∙ ap (λ (t : Bool). cond (not t) d.bytes (bytes_at plan old n)) was ∙ same
-        by_test false own block was = absurd cc
+        by_test true same block was =
+            let is_own : eqb n p.number ≡ true = eq-eqb n p.number (sym (eqb-true p.number n same)) in
+            let found : d.bytes ≡ b = cc in
+            own n is_own was ∙ found
+        by_test false same block was = absurd cc
+
+-- a block that fills a place that is there
+pub holds_again : (plan : GroupPlan) (image : Collected) (window : List (List ℕ)) (section : List ℕ) (d : DdbFields) (p : Place)
+    → ddb.of section ≡ Some d → place_of plan d ≡ Some p → is_there image p.number ≡ true → Holds plan image window → Holds plan image (section ∷ window)
+holds_again plan image window section d p e f there holds =
+    holds_more plan image image window section d p e f (λ n. as_before n (eqb n p.number) refl) (λ n same none. let was : is_there image n ≡ true = ap (is_there image) (eqb-true n p.number same) ∙ there in absurd cc)
+    (λ n was. refl) holds
+  where
+    as_before : (n : ℕ) → (same : Bool) → eqb n p.number ≡ same → is_there image n ≡ (same || is_there image n)
+    as_before n true is = ap (is_there image) (eqb-true n p.number is) ∙ there
+    as_before n false is = refl
 
 -- ---- how many are missing, and the image
 

@@ -69,7 +69,7 @@ comes_at_end pid left left_after progress (Installed chosen) Now h end now tells
     absurd (h.now.1 (record { group = chosen.group; plan = is.plan; window = is.window; chooses = is.chooses; filled = is.whole.filled }))
 comes_at_end pid left left_after progress (BadModule id want found) Now h end now tells =
     let is = (tells _ (now _ h.now.0)).1 in
-    absurd (h.now.1 (record { group = is.group; plan = is.plan; window = is.window; chooses = is.chooses; filled = is.filled }))
+    absurd (h.now.1 (record { group = is.group; plan = is.plan; window = is.window; chooses = is.chooses; filled = is.wrong.filled }))
 comes_at_end pid left left_after progress (Nothing level) Now h end now tells = (now_in pid left left_after _ _ h (λ sections p. (now sections p.0, p.1)), end)
 comes_at_end pid left left_after progress (Incomplete chosen missing) Now h end now tells = (now_in pid left left_after _ _ h (λ sections p. (now sections p.0, p.1)), end)
 comes_at_end pid left left_after progress Unsettled Now h end now tells = absurd (tells _ (now _ h.now.0)).1

@@ -1,3 +1,5 @@
+pub mod GrowingLaws
+pub mod CarriesLaws
 pub mod BlocksLaws
 pub mod SearchLaws
 pub mod PlanLaws

@@ -11,13 +11,8 @@ use Rattle.ts_section.specs.Events.{Event, Listen, Feed, heard, heard_of, fed}
 use Rattle.ts_section.specs.Hearing.{Hears}
 use Rattle.ts_section.proofs.HearSteps.{fed-push, heard_of-push}
 use Rattle.tool_load.specs.declared.progress.Progress.{Progress}
-use Rattle.tool_load.specs.declared.collect.Step.{Step}
-use Rattle.tool_load.specs.declared.collect.Step.TheVariants.{More, Reached, Full}
-use Rattle.tool_load.specs.Later.{first_with_later}
-use Rattle.tool_load.specs.Load.{IsReached, HearsIn, HearsAtPacket, sections_of}
-use Rattle.tool_load.specs.Progress.{StandsFor}
-use Rattle.tool_load.specs.Packets.{Follows}
-use Rattle.tool_load.specs.Ended.{OnMore, OnReached}
+use Rattle.tool_load.specs.Load.{first_with_later, IsReached, HearsIn, HearsAtPacket, sections_of}
+use Rattle.tool_load.specs.Progress.{StandsFor, Follows}
 
 -- ---- sections of packets
 
@@ -59,16 +54,6 @@ follows_more pid hearer progress ps packet hears stands not_reached = record {
   stands = stands;
   not_reached = not_reached;
 }
-
-pub OnMore_then : (step : Step) (P Q : Type 0) → OnMore step P → (P → Q) → OnMore step Q
-OnMore_then More P Q p f = f p
-OnMore_then Reached P Q p f = tt
-OnMore_then Full P Q p f = tt
-
-pub OnReached_then : (step : Step) (P Q : Type 0) → OnReached step P → (P → Q) → OnReached step Q
-OnReached_then More P Q p f = tt
-OnReached_then Reached P Q p f = f p
-OnReached_then Full P Q p f = tt
 
 -- ---- the input so far
 

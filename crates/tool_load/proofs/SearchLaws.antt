@@ -4,8 +4,7 @@ use Rattle.std.specs.Option.{option_or, option_map}
 use Rattle.dsmcc_msg.specs.Control.{DiiFields}
 use Rattle.ssu_group.specs.declared.group_plan.GroupPlan.{GroupPlan}
 use Rattle.ssu_group.specs.Lays.{IsPlanOf}
-use Rattle.tool_load.specs.Later.{first_with_later, one_later, none_later}
-use Rattle.tool_load.specs.Load.{group_in, dii_in, first_group, first_dii, Chooses, IsChosen, IsWanted}
+use Rattle.tool_load.specs.Load.{first_with_later, one_later, none_later, group_in, dii_in, first_group, first_dii, Chooses, IsChosen, IsWanted}
 
 -- ---- the first item that says something, with the items after it
 

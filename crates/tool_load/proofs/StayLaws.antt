@@ -59,16 +59,18 @@ loaded_stays section sections chosen image is = record {
 
 pub bad_stays : (section : List ℕ) (sections : List (List ℕ)) (id want found : ℕ) → IsBad sections id want found → IsBad (section ∷ sections) id want found
 bad_stays section sections id want found is =
-    let image : carried_image is.plan is.window ≡ carried_image is.plan (section ∷ is.window) = image_stays is.plan is.window section is.filled in
+    let image : carried_image is.plan is.window ≡ carried_image is.plan (section ∷ is.window) = image_stays is.plan is.window section is.wrong.filled in
     record {
       group = is.group;
       plan = is.plan;
       window = section ∷ is.window;
       chooses = chosen_on section sections is.group is.plan is.window is.chooses;
-      filled = filled_stays is.plan is.window section is.filled;
-      module_plan = is.module_plan;
-      first = subst (λ (bytes : List ℕ). wrong_module is.plan.modules.items bytes ≡ Some is.module_plan) image is.first;
-      own_id = is.own_id;
-      wanted = is.wanted;
-      has = is.has ∙ ap (λ (bytes : List ℕ). crc_of (module_bytes bytes is.module_plan)) image;
+      wrong = record {
+        filled = filled_stays is.plan is.window section is.wrong.filled;
+        module_plan = is.wrong.module_plan;
+        first = subst (λ (bytes : List ℕ). wrong_module is.plan.modules.items bytes ≡ Some is.wrong.module_plan) image is.wrong.first;
+        own_id = is.wrong.own_id;
+        wanted = is.wrong.wanted;
+        has = is.wrong.has ∙ ap (λ (bytes : List ℕ). crc_of (module_bytes bytes is.wrong.module_plan)) image;
+      };
     }

@@ -7,12 +7,11 @@ use Rattle.ssu_answer.specs.declared.chosen.Chosen.{Chosen}
 use Rattle.ssu_group.specs.declared.module_plan.ModulePlan.{ModulePlan}
 use Rattle.ssu_group.specs.declared.group_plan.GroupPlan.{GroupPlan}
 use Rattle.ssu_group.specs.Plan.{are_joined, size_of}
-use Rattle.ssu_group.specs.Carried.{wrong_module, missing_places, carried_image, module_bytes}
+use Rattle.ssu_group.specs.Carried.{IsWrong, is_wrong, wrong_module, missing_places, carried_image, module_bytes}
 use Rattle.ssu_group.proofs.PlaceLaws.{begin_joined}
 use Rattle.group_image.specs.Image.{missing_in, image_of}
 use Rattle.tool_load.specs.declared.blocks.Blocks.{Blocks}
-use Rattle.tool_load.specs.declared.wrong.Wrong.{Wrong}
-use Rattle.tool_load.specs.Wrong.{is_wrong, IsWrong}
+use Rattle.ssu_group.specs.declared.wrong.Wrong.{Wrong}
 use Rattle.tool_load.specs.Load.{chosen_of, IsLoaded, IsIncomplete, IsBad}
 use Rattle.tool_load.specs.Progress.{Collects}
 use Rattle.tool_load.proofs.BlocksLaws.{missing_is, image_is}
@@ -84,10 +83,12 @@ bad_is blocks sections m wrong is none first wrong_is =
       plan = blocks.plan;
       window = is.window;
       chooses = is.chooses;
-      filled = filled;
-      module_plan = m;
-      first = subst (λ (bytes : List ℕ). find (is_wrong bytes) blocks.plan.modules.items ≡ Some m) image first;
-      own_id = wrong_is.own_id;
-      wanted = wrong_is.wanted;
-      has = wrong_is.has ∙ ap (λ (bytes : List ℕ). crc_of (module_bytes bytes m)) image;
+      wrong = record {
+        filled = filled;
+        module_plan = m;
+        first = subst (λ (bytes : List ℕ). find (is_wrong bytes) blocks.plan.modules.items ≡ Some m) image first;
+        own_id = wrong_is.own_id;
+        wanted = wrong_is.wanted;
+        has = wrong_is.has ∙ ap (λ (bytes : List ℕ). crc_of (module_bytes bytes m)) image;
+      };
     }

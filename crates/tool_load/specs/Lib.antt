@@ -1,10 +1,6 @@
-pub mod Later
 pub mod Load
-pub mod Blocks
+pub mod Growing
 pub mod Progress
-pub mod Packets
-pub mod Ended
-pub mod Wrong
 pub mod Printed
 pub mod Told
 pub mod Does

@@ -1,38 +1,43 @@
 -- Which group `load` takes out of the sections of a PID, and what comes of it. Lists of sections have the newest first.
-use Rattle.std.specs.Prelude.{◌≡◌, ℕ, ◌*◌, ◌<◌, ◌≤◌, ◌&&◌, ◌==◌, List, [], ◌∷◌, ◌++◌, length, reverse, Option, Some}
-use Rattle.std.specs.Prelude.{None, if◌then◌else◌}
+use Rattle.std.specs.Prelude.{◌≡◌, ℕ, ◌*◌, ◌<◌, ◌≤◌, ◌&&◌, ◌==◌, List, [], ◌∷◌, ◌++◌, length, reverse, Option, Some, None, if◌then◌else◌}
 use Rattle.std.specs.List.{slice_get}
-use Rattle.std.specs.Option.{option_and_then, option_map, is_none}
+use Rattle.std.specs.Option.{option_and_then, option_map, is_none, option_or}
 use Rattle.ssu_io.specs.Bytes.{Takes}
-use Rattle.ts_crc.specs.Crc.{crc_of}
 use Rattle.ts_input.specs.Packets.{packets, most_packets, IsWithin, IsAtEnd}
 use Rattle.ts_section.specs.Events.{Listen, heard_of}
-use Rattle.dsmcc_msg.specs.Control.{GroupFields, DsiFields, DiiFields, dsi, dii}
+use Rattle.dsmcc_msg.specs.Control.{DiiFields, dsi, dii}
 use Rattle.ssu_answer.specs.BankLen.{bank_len}
 use Rattle.ssu_answer.specs.Software.{no_software}
 use Rattle.ssu_answer.specs.declared.chosen.Chosen.{Chosen}
 use Rattle.ssu_answer.specs.declared.level.Level.{Level}
 use Rattle.ssu_answer.specs.declared.level.Level.TheVariants.{Group, Modules}
 use Rattle.ssu_group.specs.declared.group_plan.GroupPlan.{GroupPlan}
-use Rattle.ssu_group.specs.declared.module_plan.ModulePlan.{ModulePlan}
 use Rattle.ssu_group.specs.Refusal.{refusal}
 use Rattle.ssu_group.specs.Lays.{IsPlanOf}
-use Rattle.ssu_group.specs.Carried.{CarriesWhole, missing_places, carried_image, wrong_module, module_bytes}
-use Rattle.tool_load.specs.Later.{first_with_later}
+use Rattle.ssu_group.specs.Carried.{CarriesWhole, HasWrong, missing_places}
 use Rattle.ssu_answer.specs.declared.verdict.Verdict.{Verdict}
 use Rattle.ssu_answer.specs.declared.verdict.Verdict.TheVariants.{Installed, Nothing, Incomplete, BadModule, Unsettled}
 
+-- ---- What the first item that says something says, with the items that came after it. Lists have the newest item first.
+
+-- what was said, and the items after it with one more
+abbrev pub one_later : {X A : Type 0} → X → A × List X → A × List X
+one_later item said = (said.0, item ∷ said.1)
+
+-- what was said, and no item after it
+abbrev pub none_later : {X A : Type 0} → A → A × List X
+none_later a = (a, [])
+
+unfoldable pub first_with_later : {X A : Type 0} → (X → Option A) → List X → Option (A × List X)
+first_with_later says [] = None
+first_with_later says (item ∷ earlier) =
+    option_or (option_map (one_later item) (first_with_later says earlier)) (option_map none_later (says item))
+
 -- ---- the group that is taken
-
-abbrev pub id_of : GroupFields → ℕ
-id_of group = group.id
-
-abbrev pub first_id : DsiFields → Option ℕ
-first_id d = option_map id_of (slice_get d.groups 0)
 
 -- the first group of the section, if it is a DSI that has one
 unfoldable pub group_in : List ℕ → Option ℕ
-group_in section = option_and_then first_id (dsi.of section)
+group_in section = option_and_then (λ d. option_map (λ g. g.id) (slice_get d.groups 0)) (dsi.of section)
 
 abbrev pub usable_for : ℕ → DiiFields → Option DiiFields
 usable_for group d = if d.transaction == group && is_none (refusal d bank_len) then Some d else None
@@ -101,16 +106,7 @@ pub record IsBad (sections : List (List ℕ)) (id want found : ℕ) : Type 0 whe
   pub plan : GroupPlan
   pub window : List (List ℕ)
   pub chooses : Chooses sections group plan window
-  pub filled : missing_places plan window ≡ 0
-  pub module_plan : ModulePlan
-  pub first : wrong_module plan.modules.items (carried_image plan window) ≡ Some module_plan
-  pub own_id : id ≡ module_plan.id
-  pub wanted : module_plan.crc ≡ Some want
-  pub has : found ≡ crc_of (module_bytes (carried_image plan window) module_plan)
-
--- No DSI that has a group was heard.
-abbrev pub HasNoGroup : List (List ℕ) → Type 0
-HasNoGroup sections = first_group sections ≡ None
+  pub wrong : HasWrong plan window id want found
 
 -- The group is wanted, and none of its DIIs that can be used was heard.
 pub record IsWanted (group : ℕ) (sections : List (List ℕ)) : Type 0 where
@@ -118,13 +114,10 @@ pub record IsWanted (group : ℕ) (sections : List (List ℕ)) : Type 0 where
   pub by_dsi : first_group sections ≡ Some (group, later)
   pub none : first_dii group later ≡ None
 
--- Some group is wanted, and none of its DIIs that can be used was heard.
-abbrev pub HasNoModules : List (List ℕ) → Type 0
-HasNoModules sections = (group : ℕ) × IsWanted group sections
-
+-- No DSI that has a group was heard; or some group is wanted, and none of its DIIs that can be used was heard.
 abbrev pub IsNothing : List (List ℕ) → Level → Type 0
-IsNothing sections Group = HasNoGroup sections
-IsNothing sections Modules = HasNoModules sections
+IsNothing sections Group = first_group sections ≡ None
+IsNothing sections Modules = (group : ℕ) × IsWanted group sections
 IsNothing sections other = ⊥
 
 -- What comes of the sections. The image is that of a group that is loaded.

@@ -1,30 +1,35 @@
 //! The blocks of a group that was chosen.
 
-ghost use Rattle.std.specs.Prelude.{◌≡◌, ◌∷◌, [], ℕ, List, IfOk, IfSome, IfNone, None, Some, MatchOption, length};
+ghost use Rattle.std.specs.Prelude.{◌≡◌, ◌∷◌, [], ℕ, List, IfOk, IfSome, IfNone, None, Some, MatchOption, length, All};
 ghost use Rattle.group_image.specs.Image.{missing_in, image_of};
 ghost use Rattle.ssu_group.specs.Carried.{wrong_module, module_bytes};
 ghost use Rattle.ssu_group.specs.declared.module_plan.ModulePlan.{ModulePlan};
 ghost use Rattle.ts_crc.specs.Crc.{crc_of};
 ghost use Rattle.group_image.specs.Image.{IsFor};
+ghost use Rattle.tool_load.specs.Growing.{IsSum, Reaches};
 ghost use Rattle.section_form.specs.Section.{IsRight};
 
+use crate::image::Image;
 use crate::reading::ddb_of;
-use group_image::GroupImage;
+use crate::sums::Sums;
 use ssu_group::GroupPlan;
 use ssu_io::NoMemory;
 use std::alloc::Global;
 
-/// A group that was chosen, its plan, and its image with the blocks that were heard since.
+/// A group that was chosen, its plan, and its image with the blocks that were heard since and with the CRCs of its parts.
 #[derive(Drop)]
 pub(crate) struct Blocks {
     pub(crate) group: u32,
     pub(crate) plan: GroupPlan,
-    pub(crate) image: GroupImage,
+    pub(crate) image: Image,
+    pub(crate) sums: Sums,
     ghost is_for: { IsFor plan image },
+    ghost reaches: { Reaches plan image },
+    ghost summed: { All (IsSum plan image) sums },
 }
 
 impl Blocks {
-    ghost use Rattle.tool_load.specs.Blocks.{Holds};
+    ghost use Rattle.tool_load.specs.Progress.{Holds};
 
     /// The group of this plan, without a block. All its space is taken here.
     #[inline]
@@ -33,8 +38,14 @@ impl Blocks {
         ensures plan { IfOk result (λ blocks. blocks.plan ≡ plan) }
         ensures none { IfOk result (λ blocks. Holds blocks.plan blocks.image []) }
     {
-        let image = GroupImage::new(alloc, &plan)?;
-        Ok(Blocks { group, plan, image })
+        let image = Image::new(alloc, &plan)?;
+        let sums = Sums::new(alloc, &plan)?;
+        Ok(Blocks {
+            group,
+            plan,
+            image,
+            sums,
+        })
     }
 
     /// Takes the block that a right section is, if it fills a place that is missing.
@@ -49,7 +60,10 @@ impl Blocks {
             return;
         };
         if let Some(place) = self.plan.place(&ddb) {
-            self.image.offer(place, ddb.bytes);
+            if !self.image.has(place) {
+                self.image.put(place, ddb.bytes);
+                self.sums.take(place, ddb.block == 0, section, ddb.bytes);
+            }
         }
     }
 }

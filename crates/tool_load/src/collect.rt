@@ -5,9 +5,9 @@ ghost use Rattle.ssu_io.specs.Faults.{Rose};
 ghost use Rattle.ts_input.specs.Packets.{IsAtEnd, IsOneMore, IsWithin};
 ghost use Rattle.ts_section.specs.Hearing.{Hears};
 ghost use Rattle.tool_load.specs.Load.{IsReached, IsChosen, IsOpen, IsUnchosen, HearsIn, HearsAtPacket, sections_of};
-ghost use Rattle.tool_load.specs.Progress.{StandsFor};
-ghost use Rattle.tool_load.specs.Packets.{Follows};
-ghost use Rattle.tool_load.specs.Ended.{OnMore, OnReached, OnFull, OnVerdict, OnInput, OnFault, OnTooLong, OnMemory};
+ghost use Rattle.tool_load.specs.Progress.{StandsFor, Follows};
+ghost use Rattle.tool_load.specs.declared.collect.Step.TheVariants as step;
+ghost use Rattle.tool_load.specs.declared.collect.Ended.TheVariants as how;
 
 use crate::progress::{Progress, hear_each, is_whole};
 use ssu_io::Source;
@@ -50,12 +50,12 @@ fn hear_packet(
     alloc: Global,
     packet: &Packet,
 ) -> Step
-    ensures more { OnMore result ((pid : ℕ) (ps : List (List ℕ)) → Follows pid hearer.old progress.old ps
-        → Follows pid hearer.new progress.new (ps ++ packet.now ∷ [])) }
-    ensures reached { OnReached result ((pid : ℕ) (ps : List (List ℕ)) → Follows pid hearer.old progress.old ps
-        → StandsFor progress.new (sections_of pid (ps ++ packet.now ∷ [])) × IsReached (sections_of pid (ps ++ packet.now ∷ []))) }
-    ensures full { OnFull result ((pid : ℕ) (ps : List (List ℕ)) → Follows pid hearer.old progress.old ps
-        → IsUnchosen (sections_of pid ps) × IsChosen (sections_of pid (ps ++ packet.now ∷ []))) }
+    ensures more { result ≡ step.More → (pid : ℕ) (ps : List (List ℕ)) → Follows pid hearer.old progress.old ps
+        → Follows pid hearer.new progress.new (ps ++ packet.now ∷ []) }
+    ensures reached { result ≡ step.Reached → (pid : ℕ) (ps : List (List ℕ)) → Follows pid hearer.old progress.old ps
+        → StandsFor progress.new (sections_of pid (ps ++ packet.now ∷ [])) × IsReached (sections_of pid (ps ++ packet.now ∷ [])) }
+    ensures full { result ≡ step.Full → (pid : ℕ) (ps : List (List ℕ)) → Follows pid hearer.old progress.old ps
+        → IsUnchosen (sections_of pid ps) × IsChosen (sections_of pid (ps ++ packet.now ∷ [])) }
 {
     hearer.feed(packet, each);
     match hear_each(progress, alloc, each) {
@@ -65,9 +65,9 @@ fn hear_packet(
 }
 
 fn next_step(progress: &Progress) -> Step
-    ensures more { OnMore result ((sections : List (List ℕ)) → StandsFor progress.now sections → IsOpen sections) }
-    ensures reached { OnReached result ((sections : List (List ℕ)) → StandsFor progress.now sections → IsReached sections) }
-    ensures not_full { OnFull result ⊥ }
+    ensures more { result ≡ step.More → (sections : List (List ℕ)) → StandsFor progress.now sections → IsOpen sections }
+    ensures reached { result ≡ step.Reached → (sections : List (List ℕ)) → StandsFor progress.now sections → IsReached sections }
+    ensures not_full { result ≡ step.Full → ⊥ }
 {
     if is_whole(progress) {
         Step::Reached
@@ -87,15 +87,15 @@ pub(crate) fn collect<A: Source>(
 ) -> Ended
     requires fresh { Hears hearer.old [] }
     requires none { StandsFor progress.old [] }
-    ensures reached { OnVerdict result (HearsAtPacket pid (A.left air.old) (A.left air.new)
-        (λ sections. StandsFor progress.new sections × IsReached sections) IsOpen) }
-    ensures input { OnInput result (HearsIn pid (A.left air.old) (A.left air.new) IsWithin
-        (λ sections. StandsFor progress.new sections × IsOpen sections)) }
-    ensures end { OnInput result (IsAtEnd (A.left air.new)) }
-    ensures fault { OnFault result (HearsIn pid (A.left air.old) (A.left air.new) IsWithin IsOpen) }
-    ensures cause { OnFault result (Rose (A.faults air.old) (A.faults air.new)) }
-    ensures too_long { OnTooLong result (HearsIn pid (A.left air.old) (A.left air.new) IsOneMore IsOpen) }
-    ensures no_memory { OnMemory result (HearsAtPacket pid (A.left air.old) (A.left air.new) IsChosen IsUnchosen) }
+    ensures reached { result ≡ how.Verdict → HearsAtPacket pid (A.left air.old) (A.left air.new)
+        (λ sections. StandsFor progress.new sections × IsReached sections) IsOpen }
+    ensures input { result ≡ how.Input → HearsIn pid (A.left air.old) (A.left air.new) IsWithin
+        (λ sections. StandsFor progress.new sections × IsOpen sections) }
+    ensures end { result ≡ how.Input → IsAtEnd (A.left air.new) }
+    ensures fault { result ≡ how.Fault → HearsIn pid (A.left air.old) (A.left air.new) IsWithin IsOpen }
+    ensures cause { result ≡ how.Fault → Rose (A.faults air.old) (A.faults air.new) }
+    ensures too_long { result ≡ how.TooLong → HearsIn pid (A.left air.old) (A.left air.new) IsOneMore IsOpen }
+    ensures no_memory { result ≡ how.Memory → HearsAtPacket pid (A.left air.old) (A.left air.new) IsChosen IsUnchosen }
     ensures later { A.faults air.old ≤ A.faults air.new }
 {
     hearer.listen(&only(pid));

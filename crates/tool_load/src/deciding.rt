@@ -34,7 +34,7 @@ fn verdict_of_blocks(blocks: &Blocks) -> Verdict
     if missing > 0 {
         return Verdict::Incomplete(chosen(blocks), missing);
     }
-    match first_wrong(&blocks.image, blocks.plan.modules.as_slice()) {
+    match first_wrong(&blocks.image, &blocks.sums, blocks.plan.modules.as_slice()) {
         None => Verdict::Installed(chosen(blocks)),
         Some(wrong) => Verdict::BadModule(wrong.id, wrong.want, wrong.found),
     }

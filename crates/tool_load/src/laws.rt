@@ -3,12 +3,11 @@
 ghost use Rattle.std.specs.Prelude.{◌≡◌, ℕ, List, [], ◌∷◌, Option, None};
 ghost use Rattle.std.specs.Option.{option_or, option_map};
 ghost use Rattle.ssu_answer.specs.declared.chosen.Chosen.{Chosen};
-ghost use Rattle.tool_load.specs.Load.{IsLoaded, IsBad};
-ghost use Rattle.tool_load.specs.Later.{first_with_later, one_later, none_later};
+ghost use Rattle.tool_load.specs.Load.{IsLoaded, IsBad, first_with_later, one_later, none_later};
 
 /// The first item that says something is an earlier one, and then the newest came after it, or else the newest, and
 /// then nothing did.
-#[tactic(auto, unfolding(crate::specs::Later::first_with_later))]
+#[tactic(auto, unfolding(crate::specs::Load::first_with_later))]
 pub fn first_with_later_steps<X, A>()
     ensures none { (says : X → Option A) → first_with_later says [] ≡ None }
     ensures one_more { (says : X → Option A) (item : X) (earlier : List X)

@@ -5,10 +5,12 @@ mod blocks;
 mod collect;
 mod command;
 mod deciding;
+mod image;
 mod laws;
 mod progress;
 mod put;
 mod reading;
+mod sums;
 mod wrong;
 
 pub use command::load;

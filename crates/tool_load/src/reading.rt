@@ -1,6 +1,6 @@
 //! What `load` reads out of one section: ISO/IEC 13818-6, 7.3; ETSI EN 301 192, 8.1.
 
-ghost use Rattle.std.specs.Prelude.{◌≡◌, None, Some, MatchOption};
+ghost use Rattle.std.specs.Prelude.{◌≡◌, None, Some, MatchOption, IfSome};
 ghost use Rattle.std.specs.Option.{option_map};
 ghost use Rattle.dsmcc_msg.specs.Control.{DsiFields, DiiFields, dsi, dii};
 ghost use Rattle.dsmcc_msg.specs.Block.{ddb};
@@ -8,6 +8,7 @@ ghost use Rattle.dsmcc_msg.specs.View.{ddb_view};
 ghost use Rattle.section_form.specs.Section.{IsRight};
 ghost use Rattle.ssu_group.specs.Refusal.{refusal};
 ghost use Rattle.ssu_group.specs.Lays.{IsPlanOf};
+ghost use Rattle.tool_load.specs.Growing.{Carries};
 ghost use Rattle.tool_load.specs.Load.{group_in as group_of_section, dii_in, usable_for};
 
 use dsmcc_msg::{Ddb, Dii, Dsi};
@@ -31,7 +32,8 @@ fn dii_of(section: &[u8]) -> Option<Dii<'_>>
 /// The DDB that a right section is.
 pub(crate) fn ddb_of(section: &[u8]) -> Option<Ddb<'_>>
     requires { IsRight section.now }
-    ensures { option_map ddb_view result ≡ ddb.of section.now }
+    ensures reads { option_map ddb_view result ≡ ddb.of section.now }
+    ensures carried { IfSome result (λ d. Carries section.now d.bytes.now) }
 {
     Ddb::read_right(section)
 }

@@ -45,7 +45,7 @@ pub record Replays (in_bank : Bool) (result : Status) (shelf : ShelfSeen) (air :
   -- Where no choice of a group begins in the packets taken, the flash is only read.
   pub untouched : flash.tells → ForTaken shelf air flash (λ me taken. BeginsNone me taken → flash.only_reads)
   -- At Incomplete each place that the standing choice has filled is in the spare bank, with the bytes of the first
-  -- block that filled it, so that no block is kept in memory alone.
+  -- block that filled it, so that no block is kept in memory alone. What boot took before is gone, since a choice began.
   pub stored : flash.tells → in_bank ≡ true → ForTaken shelf air flash (λ me taken. OnIncomplete result
       (λ chosen missing. Stores flash.blocks flash.contents_after me (heard_in me taken)))
   -- Contents that are not sound, or that no record can follow, are only read, and no packet is taken.

@@ -1,8 +1,7 @@
 -- What the tables hold, entry by entry, computed from the definition of the register.
 use Rattle.std.proofs.Common.{◌≡◌, ℕ, zero, suc, ◌+◌, ◌<◌, ◌&&◌, ◌==◌, Bool, true, false, List, [], ◌∷◌, length, get_or, refl, ap, ◌∙◌, arith, eqb-true}
 use Rattle.std.proofs.lemmas.Bool.{false≢true}
-use Rattle.ts_crc.specs.Crc.{after_bit, after_byte}
-use Rattle.ts_crc.specs.Tables.{lane}
+use Rattle.ts_crc.specs.Crc.{after_bit, after_byte, lane}
 use Rattle.ts_crc.specs.declared.tables.TheConstants.{TABLE_0, TABLE_1, TABLE_2, TABLE_3, TABLE_4, TABLE_5, TABLE_6, TABLE_7}
 use Rattle.ts_crc.specs.declared.later_tables.TheConstants.{TABLE_8, TABLE_9, TABLE_10, TABLE_11, TABLE_12, TABLE_13, TABLE_14, TABLE_15}
 

@@ -2,8 +2,7 @@
 use Rattle.std.proofs.Common.{◌≡◌, ℕ, zero, suc, ◌-◌, ◌*◌, ◌/◌, ◌%◌, ◌^◌, ◌<◌, ◌≤◌, List, [], ◌∷◌, length, take, drop, get_or, refl, sym, ap, ap₂, ◌∙◌, arith, bit_xor}
 use Rattle.std.proofs.lemmas.List.{take_all, length-drop, take-append-drop}
 use lib.Bits.{xor_assoc, xor_comm, xor_self, xor_zero_r}
-use Rattle.ts_crc.specs.Crc.{after_byte, after_bytes}
-use Rattle.ts_crc.specs.Tables.{lane}
+use Rattle.ts_crc.specs.Crc.{after_byte, after_bytes, lane}
 use Rattle.ts_crc.proofs.Linear.{byte_xors, own_byte}
 use Rattle.ts_crc.proofs.CrcLaws.{after_none, after_more, after_join}
 

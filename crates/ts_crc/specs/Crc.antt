@@ -1,6 +1,6 @@
 -- CRC_32: ISO/IEC 13818-1, annex A. A register of 32 bits that takes the highest bit of each byte first; there is no
 -- reflection and no exclusive or at the end.
-use Rattle.std.specs.Prelude.{ℕ, ◌/◌, ◌%◌, ◌*◌, ◌^◌, if◌then◌else◌, ◌==◌, List, [], ◌∷◌, bit_xor, fold}
+use Rattle.std.specs.Prelude.{ℕ, ◌/◌, ◌%◌, ◌*◌, ◌^◌, if◌then◌else◌, ◌==◌, List, [], ◌∷◌, bit_xor, fold, zero, suc}
 
 -- x^26 + x^23 + x^22 + x^16 + x^12 + x^11 + x^10 + x^8 + x^7 + x^5 + x^4 + x^2 + x + 1; the term x^32 is left out
 abbrev pub polynomial : ℕ
@@ -33,3 +33,8 @@ after_bytes register bytes = fold after_byte register bytes
 -- The CRC of a text.
 unfoldable pub crc_of : List ℕ → ℕ
 crc_of bytes = after_bytes start bytes
+
+-- A register of 0 after a byte and so many bytes 0 behind it: sixteen tables of it let sixteen bytes go in at once.
+unfoldable pub lane : ℕ → ℕ → ℕ
+lane zero byte = after_byte 0 byte
+lane (suc zeros) byte = after_byte (lane zeros byte) 0

@@ -3,7 +3,7 @@
 //! Entry i of table k is what a register of 0 holds after the byte i and k bytes 0 behind it, as in the first eight tables.
 
 ghost use Rattle.std.specs.Prelude.{◌≡◌};
-ghost use Rattle.ts_crc.specs.Tables.{lane};
+ghost use Rattle.ts_crc.specs.Crc.{lane};
 
 #[inline]
 pub(crate) fn lane_8(byte: u8) -> u32

@@ -4,7 +4,7 @@
 //! polynomial, and each later one from the one before; the proofs compute each entry again.
 
 ghost use Rattle.std.specs.Prelude.{◌≡◌};
-ghost use Rattle.ts_crc.specs.Tables.{lane};
+ghost use Rattle.ts_crc.specs.Crc.{lane};
 
 #[inline]
 pub(crate) fn lane_0(byte: u8) -> u32

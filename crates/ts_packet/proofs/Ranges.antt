@@ -5,8 +5,8 @@ use Rattle.std.proofs.lemmas.List.{length-drop}
 use Rattle.std.proofs.lemmas.Bool.{false≢true}
 use Rattle.std.proofs.lemmas.Option.{option_and_then_some, cond_some}
 use Rattle.ts_packet.specs.declared.packet.View.{View}
-use Rattle.ts_packet.specs.Packet.{TransportPacket, InRange, usable, is_intact, payload_of, pointed_in, with_payload, starts_unit, adaptation_field_control, adaptation_field_length, pointed_place}
-use Rattle.ts_packet.specs.Shown.{shown}
+use Rattle.ts_packet.specs.Packet.{TransportPacket, InRange, usable, is_intact, payload_of, pointed_in, with_payload}
+use Rattle.ts_packet.specs.Packet.{starts_unit, adaptation_field_control, adaptation_field_length, pointed_place, shown}
 
 chosen : {A : Type 0} (b : Bool) (x y z : A) → (if b then x else y) ≡ z
     → ((b ≡ true) × (x ≡ z)) ⊎ ((b ≡ false) × (y ≡ z))

@@ -1,6 +1,9 @@
 -- Transport packets: ISO/IEC 13818-1, 2.4.3.2 (transport packet) and 2.4.3.3 (its fields).
-use Rattle.std.specs.Prelude.{zero, suc, ◌≡◌, ℕ, ◌+◌, ◌-◌, ◌*◌, ◌/◌, ◌%◌, ◌<◌, ◌≤◌, Bool, false, if◌then◌else◌, ◌&&◌, ◌==◌, nat_lt, nat_le, List, [], ◌∷◌, ◌++◌, length, drop, replicate, slice_index, Option, Some, None, IsTrue}
+use Rattle.std.specs.Prelude.{zero, suc, ◌≡◌, ℕ, ◌+◌, ◌-◌, ◌*◌, ◌/◌, ◌%◌, ◌<◌, ◌≤◌, Bool, false, if◌then◌else◌, ◌&&◌}
+use Rattle.std.specs.Prelude.{◌==◌, nat_lt, nat_le, List, [], ◌∷◌, ◌++◌, length, drop, replicate, slice_index, Option}
+use Rattle.std.specs.Prelude.{Some, None, IsTrue}
 use Rattle.std.specs.Option.{option_map, option_and_then}
+use Rattle.ts_packet.specs.declared.packet.View.{View}
 
 -- What a usable packet carries. pointed is the index in the payload of the first byte behind the pointer_field and
 -- the bytes that it points over, or 0 where payload_unit_start_indicator is 0.
@@ -123,3 +126,7 @@ header pid counter start alone =
 unfoldable pub packet_bytes : ℕ → ℕ → Bool → List ℕ → List ℕ
 packet_bytes pid counter start payload =
     header pid counter start (length payload == 184) ++ adaptation_field (184 - length payload) ++ payload
+
+-- what a View shows, without where its payload lies in memory
+abbrev pub shown : View → TransportPacket
+shown v = record { pid = v.pid; counter = v.counter; start = v.start; pointed = v.pointed; payload = v.payload.now }

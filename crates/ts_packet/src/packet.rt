@@ -6,8 +6,7 @@
 
 ghost use Rattle.std.specs.Prelude.{◌≡◌, ◌<◌, ◌≤◌, length, IfSome};
 ghost use Rattle.std.specs.Option.{option_map};
-ghost use Rattle.ts_packet.specs.Packet.{InRange, usable, is_intact, payload_of, pid_of, pointed_in};
-ghost use Rattle.ts_packet.specs.Shown.{shown};
+ghost use Rattle.ts_packet.specs.Packet.{InRange, usable, is_intact, payload_of, pid_of, pointed_in, shown};
 
 use crate::pid::Pid;
 

@@ -3,8 +3,7 @@ use Rattle.std.proofs.Common.{◌≡◌, ◌≢◌, ℕ, ◌+◌, ◌<◌, true,
 use Rattle.std.proofs.lemmas.Bool.{cases_eq, cases_Bool}
 use Rattle.ts_packet.specs.Packet.{TransportPacket, usable, pid_of}
 use Rattle.ts_section.specs.Events.{Event, Listen, Feed, is_among, is_listened, only_of, span}
-use Rattle.ts_section.specs.Places.{IsFirst}
-use Rattle.ts_section.specs.Streams.{Follows, IsFresh}
+use Rattle.ts_section.specs.Hearing.{IsFirst, Follows, IsFresh}
 use Rattle.ts_section.specs.declared.stream.Stream.{Stream}
 use Rattle.ts_section.proofs.PidPlaces.{is_among-first, first-among, first-only}
 use Rattle.ts_section.proofs.Spans.{usable-pid, only_of-own, only_of-other, span-listen, span-feed, span-unlistened, fresh_follows}

@@ -1,7 +1,7 @@
 -- The first place of a PID in a list.
 use Rattle.std.proofs.Common.{zero, suc, ◌≡◌, ◌≢◌, ℕ, ◌<◌, true, false, List, [], ◌∷◌, length, get_or, refl, arith, eqb, inl, inr}
 use Rattle.std.proofs.lemmas.Bool.{ne_eqb, eq-eqb, cases_eq, cases_order, or_right}
-use Rattle.ts_section.specs.Places.{IsFirst}
+use Rattle.ts_section.specs.Hearing.{IsFirst}
 use Rattle.ts_section.specs.Events.{is_among}
 
 pub is_among-none : (pids : List ℕ) (pid : ℕ) → ((k : ℕ) → k < length pids → get_or pids k 0 ≢ pid) → is_among pid pids ≡ false

@@ -6,7 +6,7 @@ use Rattle.ts_packet.specs.Packet.{TransportPacket, usable, pid_of, with_payload
 use Rattle.ts_section.specs.Sections.{right_in}
 use Rattle.ts_section.specs.Events.{Event, Listen, Feed, is_among, is_listened, only_of, span, heard, heard_in}
 use Rattle.ts_section.specs.Steps.{step_to, last_from, open_texts, right_after, open_after, as_open}
-use Rattle.ts_section.specs.Streams.{Follows, IsFresh}
+use Rattle.ts_section.specs.Hearing.{Follows, IsFresh}
 use Rattle.ts_section.specs.declared.stream.Stream.{Stream}
 use Rattle.ts_section.proofs.OpenTexts.{right_in-step, open_texts-step, last_from-push}
 

@@ -2,7 +2,5 @@ pub mod Sections
 pub mod Events
 pub mod Cut
 pub mod Steps
-pub mod Streams
-pub mod Places
 pub mod Hearing
 pub mod TimedSection

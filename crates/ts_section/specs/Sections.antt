@@ -2,7 +2,9 @@
 -- 2.4.4 (pointer_field, sections, stuffing).
 -- A list of packets holds the usable packets of one PID in the order in which they came. What a start leads to is said
 -- of all the packets that come after it.
-use Rattle.std.specs.Prelude.{zero, suc, ℕ, ◌+◌, ◌%◌, Bool, true, false, if◌then◌else◌, ◌&&◌, not, ◌==◌, nat_le, List, [], ◌∷◌, ◌++◌, length, take, Option, Some, None}
+use Rattle.std.specs.Prelude.{zero, suc, ℕ, ◌+◌, ◌%◌, Bool, true, false, if◌then◌else◌, ◌&&◌}
+use Rattle.std.specs.Prelude.{not, ◌==◌, nat_le, List, [], ◌∷◌, ◌++◌, length, take, Option}
+use Rattle.std.specs.Prelude.{Some, None}
 use Rattle.std.specs.List.{filter, filter_map, slice_range}
 use Rattle.std.specs.Str.{bytes_eq}
 use Rattle.ts_packet.specs.Packet.{TransportPacket}

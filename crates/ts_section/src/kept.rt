@@ -2,9 +2,8 @@
 
 ghost use Rattle.std.specs.Prelude.{◌≡◌, ◌≢◌, ◌<◌, ◌≤◌, ℕ, length, IfSome, IsTrue, MatchOption, slice_index, slice_index_or, slice_set, true, false, vec_len};
 ghost use Rattle.ts_section.specs.declared.stream.Stream.{Stream as KeptStream};
-ghost use Rattle.ts_section.specs.Places.{IsFirst};
+ghost use Rattle.ts_section.specs.Hearing.{IsFirst, IsFresh};
 ghost use Rattle.ts_section.specs.Events.{is_among};
-ghost use Rattle.ts_section.specs.Streams.{IsFresh};
 
 use crate::hearer::PidSet;
 use crate::stream::Stream;

@@ -1,11 +1,9 @@
 //! How one packet goes on with the open text and what starts in it: ISO/IEC 13818-1, 2.4.3.3 and 2.4.4.
 
 ghost use Rattle.std.specs.Prelude.{◌≡◌, ◌+◌, ◌*◌, ◌%◌, ◌<◌, ◌≤◌, [], ◌∷◌, ◌++◌, length, true, if◌then◌else◌, IsTrue};
-ghost use Rattle.ts_packet.specs.Packet.{usable};
-ghost use Rattle.ts_packet.specs.Shown.{shown};
+ghost use Rattle.ts_packet.specs.Packet.{usable, shown, InRange};
 ghost use Rattle.ts_section.specs.Sections.{repeats as repeat_test, has_section};
 ghost use Rattle.ts_section.specs.Steps.{step_to, open_after, right_after, right_of, unfinished, longer, own_starts, added_by, as_open};
-ghost use Rattle.ts_packet.specs.Packet.{InRange};
 
 use crate::section_out::SectionOut;
 use crate::starts::{keep_rest, put_whole, rest_from, whole_len};

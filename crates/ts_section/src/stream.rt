@@ -1,8 +1,7 @@
 //! What is kept of one PID: ISO/IEC 13818-1, 2.4.3.3 and 2.4.4.
 
 ghost use Rattle.std.specs.Prelude.{◌≡◌, ◌≤◌, [], length, Some};
-ghost use Rattle.ts_packet.specs.Packet.{usable};
-ghost use Rattle.ts_packet.specs.Shown.{shown};
+ghost use Rattle.ts_packet.specs.Packet.{usable, shown};
 
 use crate::section_out::SectionOut;
 use crate::step::{Step, advance, step_of};
@@ -22,7 +21,7 @@ pub(crate) struct Stream {
 impl Stream {
     ghost use Rattle.ts_section.specs.Steps.{step_to, open_after, right_after, as_open};
     ghost use Rattle.ts_packet.specs.Packet.{InRange};
-    ghost use Rattle.ts_section.specs.Streams.{IsFresh};
+    ghost use Rattle.ts_section.specs.Hearing.{IsFresh};
 
     /// A span without packets.
     pub(crate) fn new() -> Stream

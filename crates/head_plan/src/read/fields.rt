@@ -3,8 +3,7 @@ ghost use Rattle.std.specs.Prelude.{◌≡◌, ◌+◌, ◌≤◌, IfOk, IfSome,
 ghost use Rattle.toml_fields.specs.Reading.{named, seen};
 ghost use Rattle.toml_fields.specs.Place.{place, number, optional_number};
 ghost use Rattle.ssu_time.specs.UtcField.{time_view};
-ghost use Rattle.head_plan.specs.Plans.{ArePids, IsOwnPid};
-ghost use Rattle.head_plan.specs.Schedules.{schedule_data};
+ghost use Rattle.head_plan.specs.Plans.{ArePids, IsOwnPid, schedule_data};
 ghost use Rattle.head_plan.specs.PlanText.{service, time, origin, pids, pace, manual, schedule, schedule_in};
 
 use crate::schedule::Schedule;

@@ -3,7 +3,7 @@ use Rattle.std.specs.Prelude.{Contains, map}
 use Rattle.std.proofs.lemmas.List.Elements.{All-same, All-weaker}
 use Rattle.head_plan.specs.Plans.{GroupData, PlanData}
 use Rattle.head_carousel.specs.GroupFiles.{groups_from}
-use Rattle.head_carousel.specs.Pids.{pids_of}
+use Rattle.head_carousel.specs.Signals.{pids_of}
 use Rattle.head_carousel.specs.Sections.{all_sections, sections_of}
 use Rattle.head_carousel.proofs.GroupLaws.{groups_length}
 use Rattle.head_carousel.specs.WellMade.{IsHeard, IsReady}

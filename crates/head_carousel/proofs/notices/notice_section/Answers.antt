@@ -1,7 +1,7 @@
 use Rattle.std.proofs.Common.{◌≤◌, ◌<◌, ◌^◌, length, take, ap, arith}
 use Rattle.std.specs.Prelude.{option_map}
 use Rattle.std.proofs.lemmas.List.{length-take}
-use Rattle.head_plan.specs.Schedules.{schedule_data}
+use Rattle.head_plan.specs.Plans.{schedule_data}
 use Rattle.ssu_unt.specs.Written.{body_bytes}
 use Rattle.head_carousel.proofs.NoticeLaws.{body_short, unt_made}
 use Rattle.head_carousel.proofs.notices.notice_section.Goals as goal

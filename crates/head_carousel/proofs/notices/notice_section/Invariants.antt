@@ -1,6 +1,6 @@
 use Rattle.std.proofs.Common.{◌≡◌, take}
 use Rattle.std.specs.Prelude.{option_map}
-use Rattle.head_plan.specs.Schedules.{schedule_data}
+use Rattle.head_plan.specs.Plans.{schedule_data}
 use Rattle.ssu_unt.specs.Written.{body_bytes}
 use Rattle.head_carousel.specs.Notice.{notice_body}
 use Rattle.head_carousel.proofs.notices.notice_section.Given as goal

@@ -1,7 +1,7 @@
 use Rattle.std.proofs.Common.{◌≡◌}
 use Rattle.wire.specs.Items.{items_of}
 use Rattle.si_desc.specs.SsuInfo.{info}
-use Rattle.route_tables.specs.Parts.{first_type_of}
+use Rattle.route_tables.specs.Levels.{first_type_of}
 use Rattle.route_tables.proofs.component.first_type.Given as goal
 
 abbrev pub invariant-loop-info : goal.invariant-loop-info

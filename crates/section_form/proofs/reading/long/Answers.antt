@@ -1,6 +1,6 @@
 use Rattle.wire.proofs.Laws.{whole_found, whole_only}
 use Rattle.section_form.proofs.Exact.{long_form_exact}
-use Rattle.section_form.specs.Shown.{fields}
+use Rattle.section_form.specs.Long.{fields}
 use Rattle.section_form.proofs.reading.long.Goals as goal
 
 pub returns-clause-found : goal.returns-clause-found

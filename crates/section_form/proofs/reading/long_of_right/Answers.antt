@@ -1,9 +1,8 @@
 use Rattle.std.proofs.Common.{Option, subst, arith}
 use Rattle.wire.proofs.Laws.{whole_found, whole_only}
 use Rattle.wire.specs.Read.{Reads}
-use Rattle.section_form.specs.Long.{LongFields}
+use Rattle.section_form.specs.Long.{LongFields, fields}
 use Rattle.section_form.proofs.Exact.{long_form_exact}
-use Rattle.section_form.specs.Shown.{fields}
 use Rattle.section_form.proofs.RightForm.{right_form}
 use Rattle.section_form.proofs.reading.long_of_right.Goals as goal
 

@@ -1,9 +1,8 @@
 use Rattle.std.proofs.Common.{arith, ◌++◌, ap, ap₂, sym, subst, ◌∙◌}
 use Rattle.ts_crc.specs.Crc.{crc_of}
 use Rattle.wire.specs.Number.{bytes_of}
-use Rattle.section_form.specs.Long.{long_form}
+use Rattle.section_form.specs.Long.{long_form, fields}
 use Rattle.section_form.specs.Section.{IsRightSection}
-use Rattle.section_form.specs.Shown.{fields}
 use Rattle.section_form.specs.Written.{long_bytes}
 use Rattle.section_form.proofs.LongLaws.{Fits, long_again, long_right}
 use Rattle.section_form.proofs.writing.long_section.Goals as goal

@@ -10,7 +10,7 @@ use Rattle.ssu_route.specs.Windows.{beginnings}
 use Rattle.ssu_loader.specs.Collecting.{Collects}
 use Rattle.ssu_loader.specs.Leaving.{SectionsLeave}
 use Rattle.ssu_loader.proofs.AnsweringLaws.{if_none_at}
-use Rattle.ssu_loader.proofs.HearingLaws.{goes_on_none, goes_on_some, heard_alone, heard_ends, heard_leaves, heard_left, heard_more, heard_none, heard_seen, heard_stops, heard_untouched, take_whole}
+use Rattle.ssu_loader.proofs.HearingLaws.{goes_on_none, goes_on_some, heard_alone, heard_ends, heard_leaves, heard_left, heard_more, heard_no_prev, heard_none, heard_seen, heard_stops, heard_untouched, take_whole}
 use Rattle.ssu_loader.proofs.UnlessLaws.{unless_from, unless_none, unless_one}
 use Rattle.ssu_loader.proofs.hearing.hear_each.Goals as goal
 
@@ -168,6 +168,15 @@ returns-in-Some-clause-too_many g c = λ me heard col.
     c.loop-k.invariant c.requires.usable c.get.ensures.bytes me heard col c.in-Some.verdict
     (rw c.in-Some.is at (c.in_ok-hear.ensures.seen me earlier (c.loop-k.invariant.collects me heard col)))
     (λ many. (c.hear.ensures.too_many me earlier (c.loop-k.invariant.collects me heard col) many).1)
+
+pub returns-in-Some-clause-no_prev : goal.returns-in-Some-clause-no_prev
+returns-in-Some-clause-no_prev g c = λ in_bank tells me heard col.
+    let f = g.F.Flash in
+    let earlier = after_all c.args.pid (take c.loop-k.k c.args.each.now) heard in
+    heard_no_prev g.S.Stage g.F.Flash c.args.pid c.args.each.now c.loop-k.k c.args.collector.now c.args.flash.now c.loop-k.collector c.loop-k.flash c.hear.new.self c.hear.new.flash c.get.result.now
+    c.loop-k.invariant c.requires.usable c.get.ensures.bytes in_bank tells me heard col c.in-Some.verdict
+    (goes_on_some me (heard_on c.args.pid c.get.result.now ∷ earlier) c.loop-k.collector.bank (f.contents c.loop-k.flash) (f.contents c.hear.new.flash) c.in_ok-hear.field-0 c.in-Some.verdict c.in-Some.is
+    (c.in_ok-hear.ensures.goes_on tells me earlier (c.loop-k.invariant.collects me heard col)))
 
 pub returns-in_err-hear-clause-alone : goal.returns-in_err-hear-clause-alone
 returns-in_err-hear-clause-alone g c =

@@ -140,6 +140,7 @@ returns-in-Ok-Some-clause-ends g c = λ tells me follows.
     let is = c.in-Ok-Some.field-0-is in
     ends_at g.S.Stage g.F.Flash l.input.count c.args.loader.now l.loader c.args.flash.now l.flash (left c.args.air.now) (left l.air) l.invariant.so_far me (left c.next.new.air) c.packet.result.now takes one few tells follows
     g.met.S.Stage.in_bank c.in-Ok-Some.verdict c.packet-in-loop-loader.new.flash (rw is at (c.in-Ok-Some.ensures.goes_on tells me ps follows_now)) (rw is at (c.in-Ok-Some.ensures.too_many me ps follows_now))
+    (λ in_bank. rw is at (c.in-Ok-Some.ensures.no_prev in_bank tells me ps follows_now))
     c.in-Ok-Some.ensures.blocks c.in-Ok-Some.ensures.block_size
 
 pub returns-in-Ok-Some-clause-held : goal.returns-in-Ok-Some-clause-held

@@ -1,8 +1,7 @@
 use Rattle.std.proofs.Common.{List, ◌≡◌, None, Some, refl, subst, ◌∙◌, arith}
 use Rattle.std.specs.List.{find}
-use Rattle.ssu_group.specs.Carried.{carried_image}
+use Rattle.ssu_group.specs.Carried.{carried_image, IsWrong, is_wrong}
 use Rattle.ssu_group.specs.declared.module_plan.ModulePlan.{ModulePlan}
-use Rattle.ssu_loader.specs.Settling.{IsWrongOf, is_wrong}
 use Rattle.ssu_loader.proofs.SearchLaws.{filled_stays, holds_stays, looked_at, looked_on, looked_through, stays_joined, stays_none}
 use Rattle.ssu_loader.proofs.wrong.first_wrong.Goals as goal
 
@@ -32,7 +31,7 @@ returns-in-Some-clause-wrong g c = λ tells window filled holds.
     let image = carried_image plan window in
     let filled' = filled_stays g.S.Stage g.F.Flash plan window c.args.stage.now l.stage c.args.bank.now l.bank c.args.flash.now l.flash l.invariant.stays filled in
     let holds' = holds_stays g.S.Stage g.F.Flash plan window c.args.stage.now l.stage c.args.bank.now l.bank c.args.flash.now l.flash tells l.invariant.stays holds in
-    let P : List ModulePlan → Type 0 = λ modules. (m : ModulePlan) × (find (is_wrong image) modules ≡ Some m) × IsWrongOf image m c.in-Some.wrong in
+    let P : List ModulePlan → Type 0 = λ modules. (m : ModulePlan) × (find (is_wrong image) modules ≡ Some m) × IsWrong image m c.in-Some.wrong in
     subst P c.as_slice-part-items.ensures.value
     (looked_at image c.as_slice-part-items.result.now l.part-index _ c.in_ok-wrong_of.field-0 c.in-Some.wrong c.loop-part-test.true c.in-Some.is
     (c.in_ok-wrong_of.ensures.wrong tells window filled' holds') (l.invariant.found tells window filled holds))

@@ -2,8 +2,7 @@ use Rattle.std.proofs.Common.{◌≡◌, ◌∙◌, ◌++◌, [], ◌∷◌, tak
 use Rattle.wire.specs.Items.{items_of}
 use Rattle.dsmcc_msg.specs.Control.{group_entry}
 use Rattle.ssu_unt.proofs.Keeping.{kept_all, kept_more}
-use Rattle.ssu_route.specs.Kept.{afresh}
-use Rattle.ssu_route.specs.Accepted.{is_accepted_by, group_view, offer_to}
+use Rattle.ssu_route.specs.Kept.{afresh, is_accepted_by, group_view, offer_to}
 use Rattle.ssu_route.proofs.Accepting.{all_afresh, first_accepted, one_accepted}
 use Rattle.ssu_route.proofs.accept.accepted.Goals as goal
 

@@ -1,4 +1,6 @@
-use Rattle.std.proofs.Common.{refl}
+use Rattle.std.proofs.Common.{refl, subst}
+use Rattle.ssu_status.specs.Words.{IsInRange, task_of}
+use Rattle.ssu_status.specs.declared.command.Command.{Command}
 use Rattle.ssu_tool.proofs.top.dispatch.Goals as goal
 
 pub returns-in-Hear-clause-does : goal.returns-in-Hear-clause-does
@@ -30,3 +32,15 @@ returns-in-Replay-clause-does g c = rw c.in-Replay.is (c.replay.ensures.replays,
 
 pub returns-in-Air-clause-does : goal.returns-in-Air-clause-does
 returns-in-Air-clause-does g c = rw c.in-Air.is (c.air.ensures.does, refl)
+
+pub returns-in-Audit-clause-does : goal.returns-in-Audit-clause-does
+returns-in-Audit-clause-does g c = rw c.in-Audit.is (c.audit.ensures.does, (refl, (refl, refl)))
+
+pub returns-in-AuditWithNotice-clause-does : goal.returns-in-AuditWithNotice-clause-does
+returns-in-AuditWithNotice-clause-does g c = rw c.in-AuditWithNotice.is (c.audit-in-AuditWithNotice.ensures.does, (refl, (refl, refl)))
+
+pub sample-requires : goal.sample-requires
+sample-requires g c = subst (λ (command : Command). IsInRange (task_of command)) c.in-Sample.is c.requires
+
+pub returns-in-Sample-clause-does : goal.returns-in-Sample-clause-does
+returns-in-Sample-clause-does g c = rw c.in-Sample.is (c.sample.ensures.does, (refl, (refl, (refl, refl))))

@@ -13,3 +13,6 @@ returns-clause-does g c = λ task line.
     let some = c.in-Some.ensures.only task line in
     let same : task_of c.in-Some.command ≡ task = cc in
     rw (← same) c.dispatch.ensures.does
+
+pub dispatch-requires : goal.dispatch-requires
+dispatch-requires g c = c.in-Some.ensures.found.in_range

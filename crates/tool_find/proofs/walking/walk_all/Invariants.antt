@@ -1,7 +1,7 @@
 use Rattle.std.proofs.Common.{ℕ, ◌-◌, ◌≤◌, []}
 use Rattle.route_tables.specs.Values.{Receiver}
 use Rattle.ts_input.specs.Packets.{most_packets}
-use Rattle.tool_find.specs.Ways.{Walks}
+use Rattle.tool_find.specs.Lines.{Walks}
 use Rattle.tool_find.proofs.Printing.{WalkedSoFar}
 use Rattle.tool_find.proofs.walking.walk_all.Given as goal
 

@@ -1,4 +1,4 @@
-use Rattle.std.proofs.Common.{◌≡◌, List, ℕ, arith, inl, inr, refl, subst}
+use Rattle.std.proofs.Common.{List, ℕ, arith, inl, inr, refl, subst}
 use Rattle.std.proofs.lemmas.Grind.{common_steps}
 use Rattle.ssu_io.specs.Bytes.{Gains, GainsPrefix}
 use Rattle.ssu_io.specs.Faults.{Rose}

@@ -19,7 +19,7 @@ loop-alloc-init g c =
     }
 
 pub returns-in-Reached-clause-reached : goal.returns-in-Reached-clause-reached
-returns-in-Reached-clause-reached g c =
+returns-in-Reached-clause-reached g c = λ _.
     let left = g.A.Source.left in
     let l = c.loop-alloc in
     let takes : Takes (left l.air) (left c.next.new.air) c.packet.result.now = rw c.packet.ensures (c.loop-alloc-test.ensures.packet refl) in
@@ -28,17 +28,17 @@ returns-in-Reached-clause-reached g c =
     let Now : List (List ℕ) → Type 0 = λ sections. StandsFor c.hear_packet.new.progress sections × IsReached sections in
     at_packet c.args.pid l.input.count l.hearer l.progress (left c.args.air.now) (left l.air) (left c.next.new.air) c.packet.result.now Now IsOpen
     l.invariant.so_far takes one few
-    (c.in-Reached.ensures.reached c.args.pid (packets l.invariant.so_far.taken) l.invariant.so_far.follows)
+    (c.in-Reached.ensures.reached refl c.args.pid (packets l.invariant.so_far.taken) l.invariant.so_far.follows)
     l.invariant.so_far.follows.not_reached
 
 pub returns-in-Full-clause-no_memory : goal.returns-in-Full-clause-no_memory
-returns-in-Full-clause-no_memory g c =
+returns-in-Full-clause-no_memory g c = λ _.
     let left = g.A.Source.left in
     let l = c.loop-alloc in
     let takes : Takes (left l.air) (left c.next.new.air) c.packet.result.now = rw c.packet.ensures (c.loop-alloc-test.ensures.packet refl) in
     let one : length c.packet.result.now ≡ 188 = rw c.packet.ensures c.next.ensures.len in
     let few : l.input.count < 16777216 = omega (arith, c.next.ensures.within, (c.loop-alloc-test.ensures.count refl)) in
-    let full = c.in-Full.ensures.full c.args.pid (packets l.invariant.so_far.taken) l.invariant.so_far.follows in
+    let full = c.in-Full.ensures.full refl c.args.pid (packets l.invariant.so_far.taken) l.invariant.so_far.follows in
     at_packet c.args.pid l.input.count l.hearer l.progress (left c.args.air.now) (left l.air) (left c.next.new.air) c.packet.result.now IsChosen IsUnchosen
     l.invariant.so_far takes one few full.1 full.0
 
@@ -52,13 +52,13 @@ loop-alloc-preserved g c =
       so_far = rw (c.loop-alloc-test.ensures.count refl)
           (so_far_more c.args.pid l.input.count l.hearer c.hear_packet.new.hearer l.progress c.hear_packet.new.progress
           (left c.args.air.now) (left l.air) (left c.next.new.air) c.packet.result.now l.invariant.so_far takes one
-          (c.in-More.ensures.more c.args.pid (packets l.invariant.so_far.taken) l.invariant.so_far.follows));
+          (c.in-More.ensures.more refl c.args.pid (packets l.invariant.so_far.taken) l.invariant.so_far.follows));
       within = c.next.ensures.within;
       later = omega (arith, l.invariant.later, c.next.ensures.later);
     }
 
 pub returns-in-End-clause-input : goal.returns-in-End-clause-input
-returns-in-End-clause-input g c =
+returns-in-End-clause-input g c = λ _.
     let left = g.A.Source.left in
     let so_far = c.loop-alloc.invariant.so_far in
     let ps = packets so_far.taken in
@@ -70,7 +70,7 @@ returns-in-End-clause-input g c =
     (so_far.follows.stands, so_far.follows.not_reached)
 
 pub returns-in-Failed-clause-fault : goal.returns-in-Failed-clause-fault
-returns-in-Failed-clause-fault g c =
+returns-in-Failed-clause-fault g c = λ _.
     let left = g.A.Source.left in
     let so_far = c.loop-alloc.invariant.so_far in
     let ps = packets so_far.taken in
@@ -81,7 +81,7 @@ returns-in-Failed-clause-fault g c =
     so_far.follows.not_reached
 
 pub returns-in-TooLong-clause-too_long : goal.returns-in-TooLong-clause-too_long
-returns-in-TooLong-clause-too_long g c =
+returns-in-TooLong-clause-too_long g c = λ _.
     let left = g.A.Source.left in
     let so_far = c.loop-alloc.invariant.so_far in
     at_end c.args.pid IsOneMore (left c.args.air.now) (left c.ended.new.air) (packets so_far.taken) IsOpen

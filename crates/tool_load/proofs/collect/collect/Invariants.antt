@@ -1,4 +1,4 @@
-use Rattle.std.proofs.Common.{ℕ, ◌-◌, ◌≤◌}
+use Rattle.std.proofs.Common.{◌-◌, ◌≤◌}
 use Rattle.ts_input.specs.Packets.{most_packets}
 use Rattle.tool_load.proofs.PacketLaws.{SoFar}
 use Rattle.tool_load.proofs.collect.collect.Given as goal

@@ -1,4 +1,4 @@
-use Rattle.std.proofs.Common.{ℕ, List, ap}
+use Rattle.std.proofs.Common.{ℕ, List}
 use Rattle.ssu_answer.specs.declared.verdict.Verdict.{Verdict}
 use Rattle.ssu_io.specs.Bytes.{Gains}
 use Rattle.ssu_io.specs.Seen.{sink_seen}

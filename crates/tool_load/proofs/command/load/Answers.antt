@@ -1,4 +1,4 @@
-use Rattle.std.proofs.Common.{inl, inr}
+use Rattle.std.proofs.Common.{inl, inr, refl}
 use Rattle.ssu_io.specs.Seen.{sink_seen}
 use Rattle.tool_load.specs.Printed.{PutsAll, PutsPart}
 use Rattle.tool_load.proofs.SearchLaws.{no_group_yet}
@@ -21,7 +21,7 @@ returns-in-Verdict g c =
       does = record {
         verdict = told_then s _ _ d.ensures.told (λ v puts.
             comes_at_packet c.args.pid (left c.args.air.now) (left c.collect.new.air) c.collect.new.progress v
-            (λ sections. PutsAll sections v made out) c.in-Verdict.ensures.reached puts (λ sections p. (p.image, p.comes)));
+            (λ sections. PutsAll sections v made out) (c.in-Verdict.ensures.reached refl) puts (λ sections p. (p.image, p.comes)));
         no_memory = no_memory_fault s _ is;
         read_fault = no_read_fault s _ is;
         read_cause = no_read_fault s _ is;
@@ -29,7 +29,7 @@ returns-in-Verdict g c =
         write_fault = write_fault_then s _ _ d.ensures.write_fault (λ p. (
           p.0,
           comes_at_packet c.args.pid (left c.args.air.now) (left c.collect.new.air) c.collect.new.progress p.0
-              (λ sections. PutsPart sections p.0 made out) c.in-Verdict.ensures.reached p.1 (λ sections q. (q.image, q.comes)),
+              (λ sections. PutsPart sections p.0 made out) (c.in-Verdict.ensures.reached refl) p.1 (λ sections q. (q.image, q.comes)),
         ));
         write_cause = d.ensures.write_cause;
         made_kept = d.ensures.kept;
@@ -54,7 +54,7 @@ returns-in-Input g c =
       does = record {
         verdict = told_then s _ _ d.ensures.told (λ v puts.
             comes_at_end c.args.pid (left c.args.air.now) (left c.collect.new.air) c.collect.new.progress v
-            (λ sections. PutsAll sections v made out) c.in-Input.ensures.input c.in-Input.ensures.end puts (λ sections p. (p.image, p.comes)));
+            (λ sections. PutsAll sections v made out) (c.in-Input.ensures.input refl) (c.in-Input.ensures.end refl) puts (λ sections p. (p.image, p.comes)));
         no_memory = no_memory_fault s _ is;
         read_fault = no_read_fault s _ is;
         read_cause = no_read_fault s _ is;
@@ -62,7 +62,7 @@ returns-in-Input g c =
         write_fault = write_fault_then s _ _ d.ensures.write_fault (λ p. (
           p.0,
           comes_at_end c.args.pid (left c.args.air.now) (left c.collect.new.air) c.collect.new.progress p.0
-              (λ sections. PutsPart sections p.0 made out) c.in-Input.ensures.input c.in-Input.ensures.end p.1 (λ sections q. (q.image, q.comes)),
+              (λ sections. PutsPart sections p.0 made out) (c.in-Input.ensures.input refl) (c.in-Input.ensures.end refl) p.1 (λ sections q. (q.image, q.comes)),
         ));
         write_cause = d.ensures.write_cause;
         made_kept = d.ensures.kept;

@@ -2,7 +2,8 @@ use Rattle.std.proofs.Common.{◌≡◌, ◌+◌, ◌<◌, ◌≤◌, List, leng
 use Rattle.std.specs.List.{find}
 use Rattle.ssu_group.specs.declared.module_plan.ModulePlan.{ModulePlan}
 use Rattle.group_image.specs.Image.{missing_in, image_of}
-use Rattle.tool_load.specs.Wrong.{is_wrong}
+use Rattle.ssu_group.specs.Carried.{is_wrong}
+use Rattle.tool_load.proofs.GrowingLaws.{all_reached, all_crcs}
 use Rattle.tool_load.proofs.VerdictLaws.{modules_inside, incomplete_is, loaded_is, bad_is}
 use Rattle.tool_load.proofs.deciding.verdict_of_blocks.Goals as goal
 
@@ -10,8 +11,18 @@ pub returns-then-missing-gt0-clause-verdict : goal.returns-then-missing-gt0-clau
 returns-then-missing-gt0-clause-verdict c = λ sections is.
     incomplete_is c.args.blocks.now sections c.chosen.result c.missing-missing.result is c.chosen.ensures c.missing-missing.ensures (omega arith)
 
-pub first_wrong-requires : goal.first_wrong-requires
-first_wrong-requires c = λ k d below.
+pub first_wrong-requires-clause-reached : goal.first_wrong-requires-clause-reached
+first_wrong-requires-clause-reached c =
+    let blocks = c.args.blocks.now in
+    all_reached blocks.plan blocks.image blocks.is_for blocks.reaches (sym c.missing-missing.ensures ∙ omega arith)
+
+pub first_wrong-requires-clause-sums : goal.first_wrong-requires-clause-sums
+first_wrong-requires-clause-sums c =
+    let blocks = c.args.blocks.now in
+    all_crcs blocks.plan blocks.image blocks.sums blocks.summed
+
+pub first_wrong-requires-clause-inside : goal.first_wrong-requires-clause-inside
+first_wrong-requires-clause-inside c = λ k d below.
     let blocks = c.args.blocks.now in
     let inside : (get_or c.as_slice.result.now k d).at + (get_or c.as_slice.result.now k d).size ≤ blocks.plan.total =
     subst (λ (ms : List ModulePlan). k < length ms → (get_or ms k d).at + (get_or ms k d).size ≤ blocks.plan.total) (sym c.as_slice.ensures.value)

@@ -1,7 +1,7 @@
 use Rattle.std.proofs.Common.{◌≡◌, drop}
 use Rattle.std.specs.List.{find}
 use Rattle.group_image.specs.Image.{image_of}
-use Rattle.tool_load.specs.Wrong.{is_wrong}
+use Rattle.ssu_group.specs.Carried.{is_wrong}
 use Rattle.tool_load.proofs.wrong.first_wrong.Given as goal
 
 abbrev pub invariant-loop-part : goal.invariant-loop-part

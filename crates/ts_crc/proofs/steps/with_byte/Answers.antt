@@ -1,5 +1,5 @@
 use Rattle.std.proofs.Common.{◌*◌, ◌%◌, ◌^◌, sym, ap, ◌∙◌, bit_xor}
-use Rattle.ts_crc.specs.Tables.{lane}
+use Rattle.ts_crc.specs.Crc.{lane}
 use Rattle.ts_crc.proofs.Sixteen.{one_byte}
 use Rattle.ts_crc.proofs.steps.with_byte.Goals as goal
 

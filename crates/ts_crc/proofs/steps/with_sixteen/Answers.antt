@@ -1,6 +1,5 @@
 use Rattle.std.proofs.Common.{sym, ap, ap₂, ◌∙◌, get_or, bit_xor}
-use Rattle.ts_crc.specs.Crc.{after_bytes}
-use Rattle.ts_crc.specs.Tables.{lane}
+use Rattle.ts_crc.specs.Crc.{after_bytes, lane}
 use Rattle.ts_crc.proofs.Sixteen.{sixteen, first_sixteen}
 use Rattle.ts_crc.proofs.steps.with_sixteen.Goals as goal
 

@@ -1,8 +1,7 @@
 use Rattle.std.proofs.Common.{◌≡◌, ◌≢◌, ℕ, ◌<◌, false, slice_index_or, slice_index, vec_len}
 use Rattle.ts_section.specs.declared.stream.Stream.{Stream}
-use Rattle.ts_section.specs.Places.{IsFirst}
+use Rattle.ts_section.specs.Hearing.{IsFirst, IsFresh}
 use Rattle.ts_section.specs.Events.{is_among}
-use Rattle.ts_section.specs.Streams.{IsFresh}
 use Rattle.ts_section.proofs.kept.move_kept.Given as goal
 
 -- The places below this one are done, and what is kept of each other PID has not moved.

@@ -1,9 +1,8 @@
 use Rattle.std.proofs.Common.{◌≡◌, ◌+◌, ◌≤◌, List, ℕ, ◌++◌, length, arith, sym, subst, refl, ap, ◌∙◌}
 use Rattle.dsmcc_msg.specs.Control.{module_entry}
 use Rattle.dsmcc_msg.specs.Exact.{module_entry_exact}
-use Rattle.dsmcc_msg.specs.Row.{IsRow}
+use Rattle.dsmcc_msg.specs.Written.{IsRow, module_bytes}
 use Rattle.dsmcc_msg.proofs.RowLaws.{row_add, row_more}
-use Rattle.dsmcc_msg.specs.Written.{module_bytes}
 use Rattle.dsmcc_msg.proofs.Back.{module_put}
 use Rattle.dsmcc_msg.proofs.dii_writer.DiiWriter.module.Goals as goal
 

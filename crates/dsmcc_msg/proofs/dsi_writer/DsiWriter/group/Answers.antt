@@ -3,9 +3,8 @@ use Rattle.std.proofs.lemmas.List.{length-append}
 use Rattle.ssu_compat.specs.Compat.{EntryFields, compat}
 use Rattle.dsmcc_msg.specs.Control.{group_entry}
 use Rattle.dsmcc_msg.specs.Exact.{group_entry_exact}
-use Rattle.dsmcc_msg.specs.Row.{IsRow}
+use Rattle.dsmcc_msg.specs.Written.{IsRow, group_bytes}
 use Rattle.dsmcc_msg.proofs.RowLaws.{row_add, row_more}
-use Rattle.dsmcc_msg.specs.Written.{group_bytes}
 use Rattle.dsmcc_msg.proofs.Back.{group_put}
 use Rattle.dsmcc_msg.proofs.dsi_writer.DsiWriter.group.Goals as goal
 

@@ -1,6 +1,6 @@
 use Rattle.std.proofs.Common.{◌≡◌, true, ◌∙◌, arith, Some}
 use Rattle.toml.specs.View.{items_view}
-use Rattle.head_plan.specs.Files.{texts}
+use Rattle.head_plan.specs.Plans.{texts}
 use Rattle.head_plan.specs.PlanText.{is_counted, files_of}
 use Rattle.head_plan.proofs.FileLemmas.{AreFiles-found, files_of-end}
 use Rattle.head_plan.proofs.read.groups.read_modules.Goals as goal

@@ -1,6 +1,6 @@
 use Rattle.std.proofs.Common.{◌≡◌, drop}
 use Rattle.toml.specs.View.{items_view}
-use Rattle.head_plan.specs.Files.{texts}
+use Rattle.head_plan.specs.Plans.{texts}
 use Rattle.head_plan.specs.PlanText.{files_of}
 use Rattle.head_plan.proofs.FileLemmas.{with_files}
 use Rattle.head_plan.proofs.read.groups.read_modules.Given as goal

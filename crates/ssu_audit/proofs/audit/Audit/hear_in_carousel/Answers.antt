@@ -14,7 +14,7 @@ pub returns-in-Some-clause-answer : goal.returns-in-Some-clause-answer
 returns-in-Some-clause-answer c = λ calls stands.
     let a = c.args.self.now in
     let d = ddb_view c.in-Some.ddb in
-    let is : ddb.of c.args.section.now ≡ Some d = read_as ddb_view c.ddb_of.result _ c.in-Some.ddb c.ddb_of.ensures c.in-Some.is in
+    let is : ddb.of c.args.section.now ≡ Some d = read_as ddb_view c.args.block _ c.in-Some.ddb c.requires.block c.in-Some.is in
     if_ok_then c.hear_block.result _ _ (λ answer says. says
     ∙ answer-block calls a.heard (option_map kept_of a.dsi) (dii_at a.diis) (block_at a.blocks) (hash_map_len a.blocks) (map kept_of a.notices.items) stands c.args.section.now d is)
     c.hear_block.ensures.answer
@@ -23,7 +23,7 @@ pub returns-in-Some-clause-stands : goal.returns-in-Some-clause-stands
 returns-in-Some-clause-stands c = λ calls stands.
     let a = c.args.self.now in
     let d = ddb_view c.in-Some.ddb in
-    let is : ddb.of c.args.section.now ≡ Some d = read_as ddb_view c.ddb_of.result _ c.in-Some.ddb c.ddb_of.ensures c.in-Some.is in
+    let is : ddb.of c.args.section.now ≡ Some d = read_as ddb_view c.args.block _ c.in-Some.ddb c.requires.block c.in-Some.is in
     if_ok_three c.hear_block.result _ _ _ _ (λ answer says kept keys none.
     holds-block calls a.heard (option_map kept_of a.dsi) (dii_at a.diis) (block_at a.blocks) (hash_map_len a.blocks) (map kept_of a.notices.items) stands
     c.args.section.now d (block_at c.hear_block.new.blocks) (hash_map_len c.hear_block.new.blocks) is (sym says ∙ none) (kept none) (keys none))
@@ -32,7 +32,7 @@ returns-in-Some-clause-stands c = λ calls stands.
 pub returns-in-Some-dii_of-clause-answer : goal.returns-in-Some-dii_of-clause-answer
 returns-in-Some-dii_of-clause-answer c = λ calls stands.
     let a = c.args.self.now in
-    let no_block = read_none ddb_view c.ddb_of.result (ddb.of c.args.section.now) c.ddb_of.ensures c.in_default.is in
+    let no_block = read_none ddb_view c.args.block (ddb.of c.args.section.now) c.requires.block c.in_default.is in
     let is : dii.of c.args.section.now ≡ Some c.in-Some-dii_of.dii = sym c.dii_of.ensures ∙ c.in-Some-dii_of.is in
     if_ok_then c.hear_dii.result _ _ (λ answer says. says
     ∙ answer-dii calls a.heard (option_map kept_of a.dsi) (dii_at a.diis) (block_at a.blocks) (hash_map_len a.blocks) (map kept_of a.notices.items) stands c.args.section.now c.in-Some-dii_of.dii no_block is)
@@ -41,7 +41,7 @@ returns-in-Some-dii_of-clause-answer c = λ calls stands.
 pub returns-in-Some-dii_of-clause-stands : goal.returns-in-Some-dii_of-clause-stands
 returns-in-Some-dii_of-clause-stands c = λ calls stands.
     let a = c.args.self.now in
-    let no_block = read_none ddb_view c.ddb_of.result (ddb.of c.args.section.now) c.ddb_of.ensures c.in_default.is in
+    let no_block = read_none ddb_view c.args.block (ddb.of c.args.section.now) c.requires.block c.in_default.is in
     let is : dii.of c.args.section.now ≡ Some c.in-Some-dii_of.dii = sym c.dii_of.ensures ∙ c.in-Some-dii_of.is in
     if_ok_two c.hear_dii.result _ _ _ (λ answer says kept none.
     holds-dii calls a.heard (option_map kept_of a.dsi) (dii_at a.diis) (block_at a.blocks) (hash_map_len a.blocks) (map kept_of a.notices.items) stands
@@ -59,7 +59,7 @@ none_of (Some d) is = cc
 pub returns-then-is_some-clause-answer : goal.returns-then-is_some-clause-answer
 returns-then-is_some-clause-answer c = λ calls stands.
     let a = c.args.self.now in
-    let no_block = read_none ddb_view c.ddb_of.result (ddb.of c.args.section.now) c.ddb_of.ensures c.in_default.is in
+    let no_block = read_none ddb_view c.args.block (ddb.of c.args.section.now) c.requires.block c.in_default.is in
     let no_dii : dii.of c.args.section.now ≡ None = sym c.dii_of.ensures ∙ c.in_default-dii_of.is in
     let some : is_some c.dsi_of.result ≡ true = sym c.is_some.ensures ∙ c.if-is_some.true in
     let d = some_of c.dsi_of.result some in
@@ -71,7 +71,7 @@ returns-then-is_some-clause-answer c = λ calls stands.
 pub returns-then-is_some-clause-stands : goal.returns-then-is_some-clause-stands
 returns-then-is_some-clause-stands c = λ calls stands.
     let a = c.args.self.now in
-    let no_block = read_none ddb_view c.ddb_of.result (ddb.of c.args.section.now) c.ddb_of.ensures c.in_default.is in
+    let no_block = read_none ddb_view c.args.block (ddb.of c.args.section.now) c.requires.block c.in_default.is in
     let no_dii : dii.of c.args.section.now ≡ None = sym c.dii_of.ensures ∙ c.in_default-dii_of.is in
     let some : is_some c.dsi_of.result ≡ true = sym c.is_some.ensures ∙ c.if-is_some.true in
     let d = some_of c.dsi_of.result some in
@@ -83,7 +83,7 @@ returns-then-is_some-clause-stands c = λ calls stands.
 
 pub returns-clause-answer : goal.returns-clause-answer
 returns-clause-answer c = λ calls stands.
-    let no_block = read_none ddb_view c.ddb_of.result (ddb.of c.args.section.now) c.ddb_of.ensures c.in_default.is in
+    let no_block = read_none ddb_view c.args.block (ddb.of c.args.section.now) c.requires.block c.in_default.is in
     let no_dii : dii.of c.args.section.now ≡ None = sym c.dii_of.ensures ∙ c.in_default-dii_of.is in
     let none : is_some c.dsi_of.result ≡ false = sym c.is_some.ensures ∙ c.if-is_some.false in
     sym (other_answers calls c.args.section.now no_block no_dii (sym c.dsi_of.ensures ∙ none_of c.dsi_of.result none))
@@ -91,7 +91,7 @@ returns-clause-answer c = λ calls stands.
 pub returns-clause-stands : goal.returns-clause-stands
 returns-clause-stands c = λ calls stands same.
     let a = c.args.self.now in
-    let no_block = read_none ddb_view c.ddb_of.result (ddb.of c.args.section.now) c.ddb_of.ensures c.in_default.is in
+    let no_block = read_none ddb_view c.args.block (ddb.of c.args.section.now) c.requires.block c.in_default.is in
     let no_dii : dii.of c.args.section.now ≡ None = sym c.dii_of.ensures ∙ c.in_default-dii_of.is in
     let none : is_some c.dsi_of.result ≡ false = sym c.is_some.ensures ∙ c.if-is_some.false in
     holds-other calls a.heard (option_map kept_of a.dsi) (dii_at a.diis) (block_at a.blocks) (hash_map_len a.blocks) (map kept_of a.notices.items) stands

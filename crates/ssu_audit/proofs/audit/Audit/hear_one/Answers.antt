@@ -23,4 +23,4 @@ hear_in_carousel-requires c =
     let stands = c.requires.usable.1 in
     let few = keys_few c.requires.usable.0 stands.undecided in
     let same = stands.different in
-    record { few = omega arith }
+    record { few = omega arith; block = c.requires.block }

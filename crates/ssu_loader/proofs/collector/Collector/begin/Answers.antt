@@ -61,7 +61,7 @@ returns-in-Some-clause-collects g c = λ me item heard ahead.
     let below : beginnings me heard < 16 = grind (arith, count, few, c.if-self-eq-MAX_CHOICES.false) in
     let missing = subst (λ (w : List (List ℕ)). 1 ≤ missing_places choice.plan w) (sym none) (all_missing choice.plan) in
     three_if_ok _ _ _ _ c.start.result (λ answer works empty bytes. none_from answer _ (
-    choice_collects s f me item heard self (record { bank = new.bank; stage = new.stage; route = self.route; choices = self.choices + 1 }) c.args.flash.now new.flash choice
+    choice_collects s f g.met.S.Stage.in_bank_begun me item heard self (record { bank = new.bank; stage = new.stage; route = self.route; choices = self.choices + 1 }) c.args.flash.now new.flash choice
     ahead.stands is ahead.gathers c.start.ensures.same_bank c.start.ensures.most (ap (λ (n : ℕ). n + 1) count ∙ sym more) (omega (arith, below, count)) works
     (open_more me item heard ahead.gathers.knows.undecided (missing_decides me (item ∷ heard) choice is missing (few_begin me item heard below)))
     (subst (λ (w : List (List ℕ)). HasFilled s choice.plan w new.stage) (sym none) empty)

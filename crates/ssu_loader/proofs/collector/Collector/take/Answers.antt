@@ -59,7 +59,7 @@ returns-then-is_on-clause-collects g c = λ me heard ahead.
     let joins : window me (item ∷ heard) ≡ c.args.section.now ∷ w = section_joins me item heard c.args.pid ahead.changes some on refl in
     five_where_none c.gather.result _ _ _ _
     (f.tells → HoldsFilling s choice.plan (c.args.section.now ∷ w) new.stage new.bank (f.contents new.flash)) _
-    (λ works bank most filled holds. taken_collects s f me item heard self flash choice ahead is some joins new.stage new.bank new.flash works bank most filled holds)
+    (λ works bank most filled holds. taken_collects s f me item heard self flash choice ahead is some joins g.met.S.Stage.in_bank_begun new.stage new.bank new.flash works bank most filled holds)
     c.gather.ensures.works (unless_none c.gather.result _ c.gather.ensures.same_bank) c.gather.ensures.most
     (c.gather.ensures.filled w (taken_filled s f me item heard self flash choice ahead is some joins))
     (inside_where_none c.gather.result _ _ (λ tells. c.gather.ensures.bytes tells w (taken_filled s f me item heard self flash choice ahead is some joins)
@@ -126,7 +126,7 @@ returns-else-is_on-clause-collects g c = λ me heard ahead.
     let is = c.in-Some.ensures.chosen me (item ∷ heard) ahead.stands in
     let some : IsSome (level_7 me (item ∷ heard)) = some_at _ c.choice.result c.in-Some.choice c.in-Some.is (c.choice.ensures.standing me (item ∷ heard) ahead.stands) in
     let off : carousel_pid me (item ∷ heard) ≢ Some c.args.pid = λ on. c.is_on.ensures.no c.if-is_on.false (c.carousel.ensures me (item ∷ heard) ahead.stands ∙ on) in
-    passed_collects s f me item heard c.args.self.now c.args.flash.now choice ahead is some (passes_by me item heard ahead.changes some off)
+    passed_collects s f me item heard c.args.self.now c.args.flash.now choice ahead is some g.met.S.Stage.in_bank_begun (passes_by me item heard ahead.changes some off)
 
 pub returns-else-is_on-clause-goes_on : goal.returns-else-is_on-clause-goes_on
 returns-else-is_on-clause-goes_on g c = λ tells me heard ahead.
@@ -183,4 +183,4 @@ returns-else-is_on-clause-seen g c = λ me heard ahead.
     let is = c.in-Some.ensures.chosen me (item ∷ heard) ahead.stands in
     let some : IsSome (level_7 me (item ∷ heard)) = some_at _ c.choice.result c.in-Some.choice c.in-Some.is (c.choice.ensures.standing me (item ∷ heard) ahead.stands) in
     let off : carousel_pid me (item ∷ heard) ≢ Some c.args.pid = λ on. c.is_on.ensures.no c.if-is_on.false (c.carousel.ensures me (item ∷ heard) ahead.stands ∙ on) in
-    (passed_collects s f me item heard self flash choice ahead is some (passes_by me item heard ahead.changes some off)).gathers.knows.undecided
+    (passed_collects s f me item heard self flash choice ahead is some g.met.S.Stage.in_bank_begun (passes_by me item heard ahead.changes some off)).gathers.knows.undecided

@@ -137,6 +137,9 @@ returns-clause-stored g c = λ in_bank tells me ps follows.
     (λ own. stores_in g.S.Stage g.F.Flash g.met.S.Stage.in_bank in_bank tells me heard c.hear_each.new.collector c.hear_each.new.flash own.collects)
     (returns-clause-follows g c me ps follows)
 
+pub returns-clause-no_prev : goal.returns-clause-no_prev
+returns-clause-no_prev g c = λ in_bank tells me ps follows. c.in_ok-answer.ensures.no_prev in_bank tells me (heard_by me ps) follows.collects
+
 pub returns-in_err-answer-clause-alone : goal.returns-in_err-answer-clause-alone
 returns-in_err-answer-clause-alone g c = λ me ps follows many.
     let each = c.feed.ensures.heard (followed me ps) follows.hears in

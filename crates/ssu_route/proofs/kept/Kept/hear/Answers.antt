@@ -4,8 +4,7 @@ use Rattle.route_tables.specs.Values.{same_carousel}
 use Rattle.route_tables.specs.Levels.{level_5}
 use Rattle.ssu_compat.specs.declared.rule.SwId.{SwId}
 use Rattle.ssu_route.specs.Offers.{Offer, same_offers}
-use Rattle.ssu_route.specs.Taking.{Restarts}
-use Rattle.ssu_route.specs.Standing.{offers_after}
+use Rattle.ssu_route.specs.Route.{Restarts, offers_after}
 use Rattle.route_tables.specs.Standing.{carousel_view}
 use Rattle.route_tables.specs.Next.{heard_on}
 use Rattle.ssu_route.proofs.Hearing.{hears_carousel, hears_elsewhere, hears_no_carousel, hears_other_carousel}

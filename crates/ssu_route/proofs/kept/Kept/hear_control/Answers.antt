@@ -3,9 +3,8 @@ use Rattle.std.specs.Prelude.{map}
 use Rattle.std.specs.Option.{option_map}
 use Rattle.dsmcc_msg.specs.Control.{dsi}
 use Rattle.ssu_route.specs.Offers.{same_offers}
-use Rattle.ssu_route.specs.Accepted.{accepted_in, found_items}
-use Rattle.ssu_route.specs.Kept.{afresh, offers_of}
-use Rattle.ssu_route.specs.Standing.{offers_after}
+use Rattle.ssu_route.specs.Kept.{accepted_in, found_items, afresh, offers_of}
+use Rattle.ssu_route.specs.Route.{offers_after}
 use Rattle.ssu_route.proofs.Accepting.{after_none, after_some, afresh_offers, seen_offers}
 use Rattle.ssu_route.proofs.Same.{offers_itself}
 use Rattle.ssu_route.proofs.kept.Kept.hear_control.Goals as goal

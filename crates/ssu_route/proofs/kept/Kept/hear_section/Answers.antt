@@ -3,8 +3,8 @@ use Rattle.std.specs.Prelude.{unwrap_or}
 use Rattle.std.specs.Option.{option_map}
 use Rattle.dsmcc_msg.specs.Control.{dii, dsi}
 use Rattle.ssu_route.specs.Offers.{same_offers}
-use Rattle.ssu_route.specs.Accepted.{accepted_in}
-use Rattle.ssu_route.specs.Standing.{offers_after}
+use Rattle.ssu_route.specs.Kept.{accepted_in}
+use Rattle.ssu_route.specs.Route.{offers_after}
 use Rattle.ssu_route.proofs.Same.{offers_itself}
 use Rattle.ssu_route.proofs.TakingLaws.{take_none}
 use Rattle.ssu_route.proofs.kept.Kept.hear_section.Goals as goal

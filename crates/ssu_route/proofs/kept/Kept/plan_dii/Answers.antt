@@ -3,7 +3,7 @@ use Rattle.std.specs.Prelude.{map, not, is_some}
 use Rattle.ssu_group.specs.Refusal.{refusal}
 use Rattle.ssu_route.specs.declared.kept.Kept.{Kept}
 use Rattle.ssu_route.specs.Kept.{mark_if}
-use Rattle.ssu_route.specs.Taking.{Takes, is_first}
+use Rattle.ssu_route.specs.Route.{Takes, is_first}
 use Rattle.ssu_route.proofs.TakingLaws.{first_refused, take_other, take_chosen}
 use Rattle.ssu_route.proofs.kept.Kept.plan_dii.Goals as goal
 

@@ -1,7 +1,7 @@
 use Rattle.std.proofs.Common.{◌≡◌, sym, false, true, ◌∙◌, ap}
 use Rattle.std.specs.List.{list_any}
 use Rattle.ssu_route.specs.Kept.{has_group}
-use Rattle.ssu_route.specs.Taking.{is_held}
+use Rattle.ssu_route.specs.Route.{is_held}
 use Rattle.ssu_route.proofs.TakingLaws.{take_held, take_unlisted}
 use Rattle.ssu_route.proofs.kept.Kept.take_dii.Goals as goal
 

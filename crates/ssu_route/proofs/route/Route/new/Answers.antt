@@ -3,7 +3,7 @@ use Rattle.box_file.specs.declared.file.BoxFile.{BoxFile}
 use Rattle.route_tables.proofs.Beginning.{level_5-none}
 use Rattle.ssu_route.specs.Choosing.{level_6}
 use Rattle.ssu_route.specs.Kept.{message_if}
-use Rattle.ssu_route.specs.Taking.{held}
+use Rattle.ssu_route.specs.Route.{held}
 use Rattle.ssu_route.proofs.LevelSteps.{no_carousel, no_groups, no_message}
 use Rattle.ssu_route.proofs.route.Route.new.Goals as goal
 

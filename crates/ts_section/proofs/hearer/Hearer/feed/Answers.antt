@@ -1,9 +1,7 @@
 use Rattle.std.proofs.Common.{◌≡◌, ◌<◌, length, arith, sym, ◌∙◌, Some, None, false}
-use Rattle.ts_packet.specs.Packet.{usable, pid_of}
-use Rattle.ts_packet.specs.Shown.{shown}
+use Rattle.ts_packet.specs.Packet.{usable, pid_of, shown}
 use Rattle.ts_section.specs.Events.{is_among, span}
-use Rattle.ts_section.specs.Places.{IsFirst}
-use Rattle.ts_section.specs.Streams.{Follows}
+use Rattle.ts_section.specs.Hearing.{IsFirst, Follows}
 use Rattle.ts_section.proofs.PidPlaces.{is_among-first}
 use Rattle.ts_section.proofs.Spans.{usable-pid, only_of-unusable, is_listened-feed, heard-unusable, heard-usable, heard-unlistened, follows_next, follows_heard}
 use Rattle.ts_section.proofs.Hearers.{unchanged, none_of, taken}

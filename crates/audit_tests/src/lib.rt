@@ -1,0 +1,5 @@
+//! Tests of an audit and of its command.
+#![tactic(auto)]
+
+#[cfg(test)]
+mod tool_audit_tests;

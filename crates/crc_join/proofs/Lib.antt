@@ -1,0 +1,4 @@
+mod Linear
+mod Back
+mod Sums
+pub mod JoinLaws

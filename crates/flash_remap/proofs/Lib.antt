@@ -1,0 +1,16 @@
+pub mod AttemptLemmas
+pub mod BeneathLemmas
+pub mod ChangeLemmas
+pub mod CopyLemmas
+pub mod CountLemmas
+pub mod EntryLemmas
+pub mod FillLemmas
+pub mod LeavingLemmas
+pub mod LogicalLemmas
+pub mod MapLemmas
+pub mod NextLemmas
+pub mod PairLemmas
+pub mod ReadLemmas
+pub mod RemapLemmas
+pub mod SlotLemmas
+pub mod ViewLemmas

@@ -1,0 +1,10 @@
+pub mod Change
+pub mod Entry
+pub mod Layout
+pub mod Logical
+pub mod Map
+pub mod Reads
+pub mod Replaced
+pub mod Seen
+pub mod SeenLaws
+pub mod Shape

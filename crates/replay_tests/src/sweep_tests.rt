@@ -1,0 +1,273 @@
+//! Each call of a run fails in turn: the flash at each erase, program and read, and the files and outputs of every command. Each
+//! loop goes on until the run does not meet the call, and so ends by itself.
+
+use flash_bank::{boot, format};
+use flash_dev::{MemFlash, Tear};
+use ssu_compat::SwId;
+use ssu_io::{MemShelf, MemSink, MemSource};
+use ssu_tool::{Status, run};
+use std::alloc::Global;
+use std::process::Abort;
+use std::test::Fail;
+
+const BOX: &str = "oui = 4660
+model = 7
+version = 1
+rule = \"any\"
+software_model = 1
+software_version = 1
+";
+
+/// The tables, the DSI, the DII and the five blocks of one file, each once.
+const PLAN: &str = "ts = 1
+network = 2
+service = 3
+oui = 4660
+time = \"2024-03-01T02:00:00\"
+pmt_pid = 256
+data_pid = 258
+turns = 11
+[[group]]
+model = 7
+version = 1
+software_model = 1
+software_version = 2
+modules = [\"new.bin\"]
+";
+
+/// The image of the flash before a replay.
+const OLD: &[u8] = b"old";
+
+/// The length of the new image, and of the flash, which has 22 blocks of 4,096 bytes.
+const NEW_LEN: usize = 20_000;
+
+const FLASH_LEN: usize = 90_112;
+
+/// More calls than any run makes of one object.
+const MOST: u32 = 400;
+
+/// What a command is lent, but for the flash.
+#[derive(Clone, Copy, PartialEq, Eq)]
+enum Object {
+    Shelf,
+    Air,
+    Made,
+    Out,
+}
+
+/// How a call fails.
+#[derive(Clone, Copy, PartialEq, Eq)]
+enum Harm {
+    /// The erase or program of the flash fails and leaves this.
+    Fails(Tear),
+    /// The same, and so does each call of the flash after it.
+    Stops(Tear),
+    /// The read of the flash fails.
+    FailsToRead,
+    /// The call of another object fails.
+    Of(Object),
+}
+
+/// The call of an object that fails, from 1. It is 0, and no call fails, where another object's call does.
+fn failing(alloc: Global, object: Object, harm: Harm, call: u32) -> Result<Vec<u32>, Fail> {
+    let number = if harm == Harm::Of(object) { call } else { 0 };
+    Ok([number].to_vec(alloc)?)
+}
+
+/// A shelf with all that a command wants.
+fn shelf_of(alloc: Global, fails: Vec<u32>) -> Result<MemShelf, Fail> {
+    let mut shelf = MemShelf::new(alloc, fails);
+    for (name, text) in [
+        ("box.toml", BOX),
+        ("plan.toml", PLAN),
+        ("script.toml", "drop = [900]"),
+        ("old.bin", "old"),
+    ] {
+        shelf.add(name, text.as_bytes().to_vec(alloc)?)?;
+    }
+    shelf.add("new.bin", vec![in alloc; 9u8; NEW_LEN]?)?;
+    Ok(shelf)
+}
+
+/// A flash with these contents.
+fn holding(alloc: Global, contents: &[u8]) -> Result<MemFlash, Fail> {
+    if contents.len() != FLASH_LEN {
+        return Err("not 22 blocks".into());
+    }
+    Ok(MemFlash::holding(alloc, contents, 4096, MOST)?)
+}
+
+/// The contents of a flash with the old image.
+fn formatted(alloc: Global) -> Result<Vec<u8>, Fail> {
+    let mut flash = MemFlash::blank(alloc, 22, 4096, MOST)?;
+    let software = SwId {
+        model: 1,
+        version: 1,
+    };
+    format(&mut flash, OLD, software)?;
+    Ok(flash.contents().to_vec(alloc)?)
+}
+
+/// What came of a command, what it put and printed, and what the flash holds then.
+#[derive(Drop)]
+struct Outcome {
+    status: Status,
+    made: Vec<u8>,
+    put: Vec<u8>,
+    held: Vec<u8>,
+}
+
+/// Runs a command over a flash with these contents, where the call of this number fails. At 0 none does.
+fn outcome_of(
+    alloc: Global,
+    command: &[&str],
+    air: &[u8],
+    held: &[u8],
+    harm: Harm,
+    call: u32,
+) -> Result<Outcome, Fail> {
+    let mut words = Vec::new(alloc);
+    words.push(String::from_str(alloc, "folder")?)?;
+    for word in command {
+        words.push(String::from_str(alloc, word)?)?;
+    }
+    let mut flash = holding(alloc, held)?;
+    match harm {
+        Harm::Fails(tear) => flash.fail_at(call, tear)?,
+        Harm::Stops(tear) => flash.stop_at(call, tear),
+        Harm::FailsToRead => flash.fail_read(call)?,
+        Harm::Of(_) => {}
+    }
+    let mut shelf = shelf_of(alloc, failing(alloc, Object::Shelf, harm, call)?)?;
+    let air_fails = failing(alloc, Object::Air, harm, call)?;
+    let mut air = MemSource::new(air.to_vec(alloc)?, 1000, air_fails);
+    let mut made = MemSink::new(alloc, failing(alloc, Object::Made, harm, call)?);
+    let mut out = MemSink::new(alloc, failing(alloc, Object::Out, harm, call)?);
+    let status = run(
+        alloc, &words, &mut shelf, &mut air, &mut flash, &mut made, &mut out,
+    );
+    Ok(Outcome {
+        status,
+        made: made.into_bytes(),
+        put: out.into_bytes(),
+        held: flash.contents().to_vec(alloc)?,
+    })
+}
+
+/// The packets of the plan.
+fn packets(alloc: Global) -> Result<Vec<u8>, Fail> {
+    let held = formatted(alloc)?;
+    let built = outcome_of(alloc, &["build"], &[], &held, Harm::FailsToRead, 0)?;
+    if built.status != Status::Done {
+        return Err("it is not built".into());
+    }
+    Ok(built.made)
+}
+
+/// Whether boot takes the new image of a flash with these contents. Any other one than this and the old one is a failure.
+fn boots_new(alloc: Global, held: &[u8]) -> Result<bool, Fail> {
+    let mut flash = holding(alloc, held)?;
+    let mut image = MemSink::new(alloc, Vec::new(alloc));
+    boot(&mut flash, &mut image)?;
+    if image.bytes() == OLD {
+        return Ok(false);
+    }
+    if image.bytes().len() == NEW_LEN && image.bytes().iter().all(|byte| *byte == 9) {
+        return Ok(true);
+    }
+    Err("neither the old image nor the whole new one".into())
+}
+
+/// Replays with each call of the flash harmed in turn. Boot takes the old image or the whole new one, the new one only after the
+/// last call, and a second replay installs. Answers how many calls there were.
+fn sweep(rt: &impl Abort, alloc: Global, air: &[u8], harm: Harm) -> Result<u32, Fail> {
+    let start = formatted(alloc)?;
+    let mut is_new = false;
+    for call in 1..MOST {
+        let outcome = outcome_of(alloc, &["replay"], air, &start, harm, call)?;
+        if matches!(outcome.status, Status::Installed(_)) {
+            assert!(rt; boots_new(alloc, &outcome.held)?);
+            return Ok(call - 1);
+        }
+        assert_eq!(rt; outcome.status, Status::FlashFault);
+        assert!(rt; outcome.put.is_empty());
+        // the new image was there one call ago, so that was the last one
+        assert!(rt; !is_new);
+        is_new = boots_new(alloc, &outcome.held)?;
+        let again = outcome_of(alloc, &["replay"], air, &outcome.held, harm, 0)?;
+        assert!(rt; matches!(again.status, Status::Installed(_)));
+        assert!(rt; boots_new(alloc, &again.held)?);
+    }
+    Err("more calls".into())
+}
+
+#[test]
+fn each_call_of_the_flash_fails_in_turn(rt: HostRuntime) -> Result<(), Fail> {
+    let alloc = rt.alloc();
+    let air = packets(alloc)?;
+    // An erase of the record block and of ten blocks of the bank, at least 79 pieces of 256 bytes at most, and the record; as many
+    // pieces that are read back.
+    for (harm, calls) in [
+        (Harm::Fails(Tear::Front(0)), 91),
+        (Harm::Stops(Tear::Front(0)), 91),
+        (Harm::Stops(Tear::Front(100)), 91),
+        (Harm::Stops(Tear::Drift(90)), 91),
+        (Harm::FailsToRead, 79),
+    ] {
+        assert!(rt; sweep(&rt, alloc, &air, harm)? >= calls);
+    }
+    Ok(())
+}
+
+/// Runs the command with each call of an object failing in turn. Each answer is the fault, until the command does not meet the
+/// call. What is put and printed is a front of what it puts and prints then, and boot takes the old image or the whole new one.
+fn each_fails(
+    rt: &impl Abort,
+    alloc: Global,
+    command: &[&str],
+    air: &[u8],
+    object: Object,
+    fault: Status,
+) -> Result<(), Fail> {
+    let start = formatted(alloc)?;
+    let harm = Harm::Of(object);
+    let whole = outcome_of(alloc, command, air, &start, harm, 0)?;
+    for call in 1..MOST {
+        let outcome = outcome_of(alloc, command, air, &start, harm, call)?;
+        assert!(rt; whole.made.starts_with(&outcome.made));
+        assert!(rt; whole.put.starts_with(&outcome.put));
+        boots_new(alloc, &outcome.held)?;
+        if outcome.status == whole.status {
+            return Ok(());
+        }
+        assert_eq!(rt; outcome.status, fault);
+    }
+    Err("more calls".into())
+}
+
+#[test]
+fn each_call_of_the_files_and_outputs_fails_in_turn(rt: HostRuntime) -> Result<(), Fail> {
+    let alloc = rt.alloc();
+    let air = packets(alloc)?;
+    let commands: [&[&str]; 12] = [
+        &["hear", "258"],
+        &["load", "258"],
+        &["find"],
+        &["show"],
+        &["build"],
+        &["blank", "4"],
+        &["format", "old.bin"],
+        &["boot"],
+        &["replay"],
+        &["air"],
+        &["audit", "258"],
+        &["sample", "0"],
+    ];
+    for command in commands {
+        each_fails(&rt, alloc, command, &air, Object::Shelf, Status::ShelfFault)?;
+        each_fails(&rt, alloc, command, &air, Object::Air, Status::ReadFault)?;
+        each_fails(&rt, alloc, command, &air, Object::Made, Status::WriteFault)?;
+        each_fails(&rt, alloc, command, &air, Object::Out, Status::WriteFault)?;
+    }
+    Ok(())
+}

@@ -1,0 +1,4 @@
+mod CallsLaws
+mod EndLaws
+mod PacketLaws
+mod ToldLaws

@@ -1,0 +1,5 @@
+pub mod Calls
+pub mod Answers
+pub mod Comes
+pub mod Does
+pub mod Following

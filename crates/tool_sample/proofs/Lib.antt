@@ -1,0 +1,7 @@
+mod FileLaws
+mod PlanLaws
+mod LossLaws
+mod FlashLaws
+mod EndLaws
+mod OutcomeLaws
+mod TellingLaws
