@@ -1,5 +1,4 @@
-//! Each call of a run fails in turn: the flash at each erase, program and read, and the files and outputs of every command. Each
-//! loop goes on until the run does not meet the call, and so ends by itself.
+//! Each call of a run fails in turn: the files and outputs of every command. Each loop goes on until the run does not meet the call, and so ends by itself.
 
 use flash_bank::{boot, format};
 use flash_dev::{MemFlash, Tear};
@@ -176,47 +175,6 @@ fn boots_new(alloc: Global, held: &[u8]) -> Result<bool, Fail> {
         return Ok(true);
     }
     Err("neither the old image nor the whole new one".into())
-}
-
-/// Replays with each call of the flash harmed in turn. Boot takes the old image or the whole new one, the new one only after the
-/// last call, and a second replay installs what is not there yet. Answers how many calls there were.
-fn sweep(rt: &impl Abort, alloc: Global, air: &[u8], harm: Harm) -> Result<u32, Fail> {
-    let start = formatted(alloc)?;
-    let mut is_new = false;
-    for call in 1..MOST {
-        let outcome = outcome_of(alloc, &["replay"], air, &start, harm, call)?;
-        if matches!(outcome.status, Status::Installed(_)) {
-            assert!(rt; boots_new(alloc, &outcome.held)?);
-            return Ok(call - 1);
-        }
-        assert_eq!(rt; outcome.status, Status::FlashFault);
-        assert!(rt; outcome.put.is_empty());
-        // the new image was there one call ago, so that was the last one
-        assert!(rt; !is_new);
-        is_new = boots_new(alloc, &outcome.held)?;
-        let again = outcome_of(alloc, &["replay"], air, &outcome.held, harm, 0)?;
-        assert!(rt; is_new || matches!(again.status, Status::Installed(_)));
-        assert!(rt; boots_new(alloc, &again.held)?);
-    }
-    Err("more calls".into())
-}
-
-#[test]
-fn each_call_of_the_flash_fails_in_turn(rt: HostRuntime) -> Result<(), Fail> {
-    let alloc = rt.alloc();
-    let air = packets(alloc)?;
-    // An erase of the record block and of ten blocks of the bank, at least 79 pieces of 256 bytes at most, and the record; as many
-    // pieces that are read back.
-    for (harm, calls) in [
-        (Harm::Fails(Tear::Front(0)), 91),
-        (Harm::Stops(Tear::Front(0)), 91),
-        (Harm::Stops(Tear::Front(100)), 91),
-        (Harm::Stops(Tear::Drift(90)), 91),
-        (Harm::FailsToRead, 79),
-    ] {
-        assert!(rt; sweep(&rt, alloc, &air, harm)? >= calls);
-    }
-    Ok(())
 }
 
 /// Runs the command with each call of an object failing in turn. Each answer is the fault, until the command does not meet the
