@@ -2,7 +2,7 @@
 """Times the commands of `ssu` on a night's update of 4 MB in three files, sent in 4,000 turns (a stream of 14 MB).
 
 It makes the folder bench/out/commands, builds the stream, and prints for each command the least processor time of twenty
-runs, in milliseconds, and its ratio to `hear` on the carousel's PID. `air` has a script that changes nothing, and what it
+runs, in milliseconds, and its ratio to `hear` on the carousel's PID. `sample 0` makes its own stream. `air` has a script that changes nothing, and what it
 makes is thrown away as the output of the others is. usage: bench/commands.py
 """
 import os
@@ -81,6 +81,7 @@ built = least_time(["build"])
 heard = least_time(["hear", "258"])
 print("build      %6.1f ms" % built)
 print("hear 258   %6.1f ms" % heard)
-for words, prepare in ((["find"], lambda: None), (["show"], lambda: None), (["load", "258"], lambda: None), (["air"], lambda: None), (["replay"], old_flash)):
+for words, prepare in ((["find"], lambda: None), (["show"], lambda: None), (["load", "258"], lambda: None), (["audit", "258"], lambda: None),
+                       (["air"], lambda: None), (["replay"], old_flash), (["sample", "0"], lambda: None)):
     time = least_time(words, prepare)
     print("%-10s %6.1f ms, %.2f times hear" % (" ".join(words), time, time / heard))

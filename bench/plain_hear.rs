@@ -1,10 +1,12 @@
 //! The job of `ssu FOLDER hear PID` in plain Rust: reads of 1 MiB, eight CRC tables, no crates.
-//! usage: plain_hear FILE PID > SECTIONS
+//! With the word 16 it has sixteen tables, and takes in the bytes first that do not wait for the register.
+//! usage: plain_hear FILE PID [16] > SECTIONS
+use std::convert::TryInto;
 use std::fs::File;
 use std::io::{Read, Write};
 
 fn tables() -> Vec<[u32; 256]> {
-    let mut tables = vec![[0u32; 256]; 8];
+    let mut tables = vec![[0u32; 256]; 16];
     for n in 0..256 {
         let mut r = (n as u32) << 24;
         for _ in 0..8 {
@@ -12,7 +14,7 @@ fn tables() -> Vec<[u32; 256]> {
         }
         tables[0][n] = r;
     }
-    for k in 1..8 {
+    for k in 1..16 {
         for n in 0..256 {
             let r = tables[k - 1][n];
             tables[k][n] = r << 8 ^ tables[0][(r >> 24) as usize];
@@ -36,8 +38,27 @@ fn crc(t: &[[u32; 256]], bytes: &[u8]) -> u32 {
     r
 }
 
+fn crc_by_sixteen(t: &[[u32; 256]; 16], bytes: &[u8]) -> u32 {
+    let mut r = 0xFFFF_FFFFu32;
+    let mut chunks = bytes.chunks_exact(16);
+    for c in &mut chunks {
+        let mut ready = 0;
+        for k in 4..16 {
+            ready ^= t[15 - k][c[k] as usize];
+        }
+        let a = r ^ u32::from_be_bytes([c[0], c[1], c[2], c[3]]);
+        r = ready ^ t[15][(a >> 24) as usize] ^ t[14][(a >> 16 & 255) as usize] ^ t[13][(a >> 8 & 255) as usize]
+            ^ t[12][(a & 255) as usize];
+    }
+    for b in chunks.remainder() {
+        r = r << 8 ^ t[0][(r >> 24) as usize ^ *b as usize];
+    }
+    r
+}
+
 struct Hearer {
     tables: Vec<[u32; 256]>,
+    by_sixteen: bool,
     last: Option<(u8, bool, Vec<u8>)>,
     text: Vec<u8>,
     open: bool,
@@ -51,7 +72,7 @@ impl Hearer {
             return s[1] & 0x80 == 0 && length == 5;
         }
         let fits = if s[1] & 0x80 != 0 { (9..=4093).contains(&length) && s[5] & 1 == 1 } else { (4..=4093).contains(&length) };
-        fits && crc(&self.tables, s) == 0
+        fits && 0 == if self.by_sixteen { crc_by_sixteen(self.tables[..].try_into().unwrap(), s) } else { crc(&self.tables, s) }
     }
 
     /// Puts the section out if the open text is whole; true if it was.
@@ -127,7 +148,8 @@ fn main() {
     let mut args = std::env::args().skip(1);
     let mut file = File::open(args.next().expect("usage: plain_hear FILE PID")).unwrap();
     let pid: u16 = args.next().expect("usage: plain_hear FILE PID").parse().unwrap();
-    let mut hearer = Hearer { tables: tables(), last: None, text: Vec::new(), open: false, out: Vec::new() };
+    let by_sixteen = args.next().is_some();
+    let mut hearer = Hearer { tables: tables(), by_sixteen, last: None, text: Vec::new(), open: false, out: Vec::new() };
     let mut stdout = std::io::stdout().lock();
     let mut buffer = vec![0u8; 1 << 20];
     let mut held = 0;

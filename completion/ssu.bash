@@ -12,7 +12,7 @@ _ssu() {
         ;;
     2)
         [[ $folder == --* ]] ||
-            mapfile -t COMPREPLY < <(compgen -W 'hear load find show build blank format boot replay air audit sample' -- "$word")
+            mapfile -t COMPREPLY < <(compgen -W 'hear load find show build blank format boot migrate replay air audit sample' -- "$word")
         ;;
     3)
         case $command in
@@ -25,7 +25,7 @@ _ssu() {
                     COMPREPLY+=("$name")
             done
             ;;
-        boot | replay)
+        boot | migrate | replay)
             mapfile -t COMPREPLY < <(compgen -W spares -- "$word")
             ;;
         hear | load | audit)

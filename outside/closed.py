@@ -12,7 +12,7 @@ import os
 import subprocess
 import sys
 
-from program import DONE, USAGE, WRITE_FAULT, Ended, Tally, in_folder
+from program import DONE, NOTHING, NO_FIT, USAGE, WRITE_FAULT, Ended, Tally, in_folder
 
 # Each command, how it ends where nothing is closed, and whether it writes to standard output then.
 COMMANDS = [
@@ -25,7 +25,11 @@ COMMANDS = [
     (("blank", "8"), DONE, True),
     (("format", "first.bin"), DONE, True),
     (("boot",), DONE, True),
+    (("migrate",), NO_FIT, False),
     (("replay",), DONE, True),
+    (("format", "first.bin", "spares", "1"), DONE, True),
+    (("boot", "spares", "1"), DONE, True),
+    (("replay", "spares", "1"), NOTHING, True),
     (("air",), DONE, True),
     (("audit", "258"), DONE, True),
     (("sample", "0"), DONE, True),

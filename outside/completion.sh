@@ -26,15 +26,20 @@ same() {
 
 same 'examples/' ssu exam
 same '--help --version' ssu --
-same 'air audit blank boot build find format hear load replay sample show' ssu examples/nightly ''
+same 'air audit blank boot build find format hear load migrate replay sample show' ssu examples/nightly ''
 same 'blank boot build' ssu examples/nightly b
 same 'boot.bin box.toml' ssu examples/nightly format bo
 same '256 257 258' ssu examples/nightly hear ''
 same '258' ssu examples/nightly load 258
+same 'spares' ssu examples/nightly migrate ''
 same '256 257 258' ssu examples/nightly audit ''
 same '256 257' ssu examples/nightly audit 258 ''
 same '' ssu examples/nightly load 258 ''
+same 'spares' ssu examples/nightly replay ''
+same 'spares' ssu examples/nightly format boot.bin sp
 same '' ssu examples/nightly find ''
+same 'spares' ssu examples/nightly boot s
+same '' ssu examples/nightly boot spares ''
 same '' ssu --help ''
 [ "$wrong" -eq 0 ] && echo "completion: as stated"
 exit "$wrong"

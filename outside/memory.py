@@ -19,6 +19,8 @@ import subprocess
 import sys
 import tempfile
 
+from kill_migrate import layout_one
+from kill_replay import Places
 from program import BLOCK, BOX, DONE, FIRST, PLAN, SECOND, in_folder, is_missing
 
 MIB = 1024 * 1024
@@ -26,10 +28,13 @@ MIB = 1024 * 1024
 SMALL = 3 * MIB
 # A map of the blocks of a group has at most so many bytes.
 BLOCK_MAP = 4145152
+# What `sample 0` may take: its files, its stream and its flash are in memory.
+SAMPLE = 12 * MIB
 STACK = 256 * 1024
 PAGE = 4096
 LARGE_BLOCKS = 32768
-BANK = (LARGE_BLOCKS - 2) // 2 * BLOCK
+LARGE = Places(LARGE_BLOCKS)
+BANK = LARGE.journal - LARGE.area
 LARGE_PLAN = PLAN.replace('"first.bin", "second.bin"', '"large.bin"').replace("block_size = 1000", "block_size = 4066").replace(
     "turns = 60", "turns = 17000")
 
@@ -86,9 +91,14 @@ def work(folder):
         table.line(" ".join(words), peak(folder, words), SMALL)
     table.line("load 258", peak(folder, ("load", "258")), SMALL + group)
     table.line("audit 258", peak(folder, ("audit", "258")), SMALL + 2 * group)
+    table.line("sample 0", peak(folder, ("sample", "0")), SAMPLE)
     table.line("replay, 22 blocks", peak(folder, ("replay",)), SMALL)
+    for words in (("format", "old.bin", "spares", "4"), ("replay", "spares", "4"), ("boot", "spares", "4")):
+        table.line(" ".join(words), peak(folder, words), SMALL)
     folder.must("format", "old.bin")
     table.line("replay, 22 blocks, its data alone", least_data(folder), MIB - STACK + 22 * BLOCK // 16)
+    folder.write("flash.bin", layout_one())
+    table.line("migrate, 514 blocks", peak(folder, ("migrate",)), SMALL)
     folder.write("box.toml", BOX + "#" * 5000000 + "\n")
     table.line("find, box.toml of 5 MB", peak(folder, ("find",)), SMALL + 2 * 5000000)
 

@@ -35,8 +35,10 @@ FOLDERS = [
     ("first.bin", ("build",), SHELF_FAULT, SHELF),
     ("old.bin", ("format", "old.bin"), SHELF_FAULT, SHELF),
     ("flash.bin", ("boot",), FLASH_FAULT, FLASH),
+    ("flash.bin", ("migrate",), FLASH_FAULT, FLASH),
     ("flash.bin", ("replay",), FLASH_FAULT, FLASH),
     ("flash.bin", ("format", "old.bin"), FLASH_FAULT, FLASH),
+    ("flash.bin", ("boot", "spares", "1"), GEOMETRY, "flash has a wrong geometry"),
     ("flash.bin", ("blank", "6"), WRITE_FAULT, WRITE),
     ("group.bin", ("load", "258"), WRITE_FAULT, WRITE),
     ("image.bin", ("boot",), WRITE_FAULT, WRITE),
@@ -56,14 +58,18 @@ ABSENCES = [
     ("air.ts", ("air",), READ_FAULT, READ),
     ("air.ts", ("audit", "258"), READ_FAULT, READ),
     ("flash.bin", ("boot",), GEOMETRY, "flash has a wrong geometry"),
+    ("flash.bin", ("migrate",), GEOMETRY, "flash has a wrong geometry"),
     ("flash.bin", ("replay",), GEOMETRY, "flash has a wrong geometry"),
     ("flash.bin", ("format", "old.bin"), GEOMETRY, "flash has a wrong geometry"),
+    ("flash.bin", ("boot", "spares", "1"), GEOMETRY, "flash has a wrong geometry"),
+    ("flash.bin", ("format", "old.bin", "spares", "1"), GEOMETRY, "flash has a wrong geometry"),
 ]
 FORBIDDEN = [
     ("air.ts", ("hear", "258"), READ_FAULT, READ),
     ("box.toml", ("find",), SHELF_FAULT, SHELF),
     ("first.bin", ("build",), SHELF_FAULT, SHELF),
     ("flash.bin", ("boot",), FLASH_FAULT, FLASH),
+    ("flash.bin", ("migrate",), FLASH_FAULT, FLASH),
     ("flash.bin", ("replay",), FLASH_FAULT, FLASH),
     ("flash.bin", ("format", "old.bin"), FLASH_FAULT, FLASH),
     ("flash.bin", ("blank", "6"), WRITE_FAULT, WRITE),
@@ -172,6 +178,10 @@ def lengths_of_a_flash(tally, folder):
     with open(folder.file("flash.bin"), "wb") as file:
         file.truncate(65536 * BLOCK)
     tally.same("boot of the largest flash, of zeros", folder.answer("boot"), Ended(FOREIGN, "", "ssu: flash is foreign\n"))
+    with open(folder.file("flash.bin"), "wb") as file:
+        file.truncate(65539 * BLOCK)
+    tally.same("boot of the largest flash with 2 spares, of zeros", folder.answer("boot", "spares", "2"), Ended(FOREIGN, "", "ssu: flash is foreign\n"))
+    tally.same("boot of it with 1 spare", folder.answer("boot", "spares", "1"), Ended(GEOMETRY, "", "ssu: flash has a wrong geometry\n"))
 
 
 def words(tally, folder):

@@ -23,7 +23,11 @@ COMMANDS = [
     (("blank", "6"), {"flash.bin": MADE}),
     (("format", "old.bin"), {"box.toml": READ, "old.bin": READ, "flash.bin": BOTH}),
     (("boot",), {"flash.bin": READ, "image.bin": MADE}),
+    (("migrate",), {"flash.bin": BOTH}),
     (("replay",), {"box.toml": READ, "air.ts": READ, "flash.bin": BOTH}),
+    (("format", "old.bin", "spares", "1"), {"box.toml": READ, "old.bin": READ, "flash.bin": BOTH}),
+    (("boot", "spares", "1"), {"flash.bin": READ, "image.bin": MADE}),
+    (("replay", "spares", "1"), {"box.toml": READ, "air.ts": READ, "flash.bin": BOTH}),
     (("air",), {"script.toml": READ, "air.ts": READ, "aired.ts": MADE}),
     (("audit", "258", "257"), {"air.ts": READ}),
     (("sample", "0"), {}),
@@ -31,6 +35,7 @@ COMMANDS = [
     (("hear", "8192"), {}),
     (("format", "../old.bin"), {}),
     (("sing",), {}),
+    (("find", "spares", "1"), {}),
 ]
 
 

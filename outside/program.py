@@ -130,11 +130,11 @@ class Folder:
         status, _ = self.run(*words, before=strace)
         return None if status < 0 or status == 137 else status
 
-    def boot(self):
-        """The status of `boot`, the image that it gave, and what it printed."""
+    def boot(self, *spares):
+        """The status of `boot`, with `spares S` or without, the image that it gave, and what it printed."""
         if self.has("image.bin"):
             os.remove(self.file("image.bin"))
-        status, line = self.run("boot")
+        status, line = self.run("boot", *spares)
         return status, self.read("image.bin") if self.has("image.bin") else b"", line
 
 

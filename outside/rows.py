@@ -12,6 +12,7 @@ import shutil
 import sys
 
 import stream as s
+from kill_migrate import IMAGE, boot_line, layout_one
 from program import (ABSENT, AUDIT_REFUSED, BAD_MODULE, BOX, BOX_REFUSED, BUILD_REFUSED, DONE, FLASH_FAULT, FOREIGN, GEOMETRY, INCOMPLETE, INSTALLED,
                      NO_FIT, NO_MEMORY, NOTHING, OLD, PLAN_REFUSED, READ_FAULT, SHELF_FAULT, TOO_LONG, UNSETTLED, USAGE, WORN, WRITE_FAULT,
                      BLOCK, BOOT_NEW, BOOT_OLD, FIRST, PLAN, SECOND, Ended, Tally, in_folder)
@@ -56,7 +57,9 @@ class Case(Tally):
 def words_of_the_command_line(case):
     case.same("no words", case.folder.answer()[:1] + ("ssu: usage\n",), (USAGE, "ssu: usage\n"))
     for words in (("hear", "8192"), ("hear", "007"), ("hear", "-1"), ("hear", "+1"), ("hear", ""), ("hear",), ("hear", "1", "2"), ("blank", "3"),
-                  ("blank", "65537"), ("format", ".hidden"), ("format", "a/b"), ("format", "x" * 65), ("find", "1"), ("audit", "7", "7"), ("audit", "7", "8192"), ("audit",), ("nothing",), ("",)):
+                  ("blank", "65537"), ("format", ".hidden"), ("format", "a/b"), ("format", "x" * 65), ("find", "1"), ("audit", "7", "7"), ("audit", "7", "8192"), ("audit",),
+                  ("sample",), ("sample", "1000000"), ("sample", "05"), ("sample", "0", "0"), ("replay", "spares", "0"), ("boot", "spares", "256"),
+                  ("find", "spares", "4"), ("nothing",), ("",)):
         case.answers(" ".join(words) or "an empty command", words, USAGE, err="usage")
 
 
@@ -140,6 +143,15 @@ def audits(case):
         case.on_carousel("audit of two streams, " + what, ("audit", "258"), sections, AUDIT_REFUSED, line)
 
 
+def samples(case):
+    """The lines of a sample, which touches no file of the folder."""
+    for number, modules, length, sections in ((0, 1, 50000, 55), (5, 3, 244000, 246), (999999, 1, 93000, 97)):
+        case.answers("sample %d" % number, ("sample", str(number)), DONE, "sample %d modules %d bytes %d sections %d\n"
+                     "installed group 2147483650 software 1.2 bytes %d\nboot bank 1 number 2 software 1.2 bytes %d\n"
+                     % (number, modules, length, sections, length, length))
+    case.same("the folder is empty", os.listdir(case.folder.path), [])
+
+
 def plans_and_boxes(case):
     folder = case.folder
     folder.write("a.bin", NINE)
@@ -181,8 +193,10 @@ def flashes(case):
     folder = case.folder
     folder.write("box.toml", BOX.replace("software_version = 1", "software_version = 2"))
     case.answers("boot without a flash", ("boot",), GEOMETRY, err="flash has a wrong geometry")
+    case.answers("migrate without a flash", ("migrate",), GEOMETRY, err="flash has a wrong geometry")
     case.answers("blank", ("blank", "4"), DONE, "blank 4\n")
     case.answers("boot of a blank flash", ("boot",), FOREIGN, err="flash is foreign")
+    case.answers("migrate of a blank flash", ("migrate",), FOREIGN, err="flash is foreign")
     folder.write("large.bin", bytes(BLOCK + 1))
     case.answers("an image that does not fit", ("format", "large.bin"), NO_FIT, err="image does not fit")
     folder.write("five.bin", b"image")
@@ -190,13 +204,23 @@ def flashes(case):
     case.same("the record", folder.read("flash.bin")[:16].hex(), "53ac53ac55aa31ce00ff00ff00ff01fe")
     case.answers("boot", ("boot",), DONE, "boot bank 0 number 1 software 1.2 bytes 5\n")
     case.same("the image", folder.read("image.bin"), b"image")
+    case.answers("migrate of a flash that is too small", ("migrate",), NO_FIT, err="image does not fit")
     flash = bytearray(folder.read("flash.bin"))
     flash[8:16] = bytes.fromhex("ff00ff00ff00ff00")
     folder.write("flash.bin", flash)
     folder.write("air.ts", b"")
     case.answers("replay with the last number", ("replay",), WORN, err="records are worn out")
+    case.answers("migrate with the last number", ("migrate",), WORN, err="records are worn out")
     case.answers("boot with the last number", ("boot",), DONE, "boot bank 0 number 4294967295 software 1.2 bytes 5\n")
     case.same("the flash is as before", folder.read("flash.bin"), flash)
+    folder.write("flash.bin", layout_one())
+    case.answers("boot of layout 1", ("boot",), DONE, boot_line(7))
+    case.answers("migrate", ("migrate",), DONE, "migrated bytes 5000 number 8\n")
+    case.answers("boot of layout 2", ("boot",), DONE, boot_line(8))
+    case.same("the image of layout 1", folder.read("image.bin"), IMAGE)
+    flash = folder.read("flash.bin")
+    case.answers("a second migrate", ("migrate",), DONE, "already layout 2 number 8\n")
+    case.same("the flash is as the first one left it", folder.read("flash.bin"), flash)
 
 
 def replays(case):
@@ -227,6 +251,21 @@ def replays(case):
         case.answers("boot after that", ("boot",), DONE, BOOT_NEW)
     else:
         print("strace is not installed: a write that fails is skipped")
+
+
+def spares(case):
+    """A flash of 11 blocks of which 4 are spares: banks of 2 blocks. A bank of a block more, and its replay, do not fit."""
+    folder = case.folder
+    folder.prepare(11)
+    folder.write("large.bin", bytes(2 * BLOCK + 1))
+    case.answers("format with spares", ("format", "old.bin", "spares", "4"), DONE, "formatted bytes %d\n" % len(OLD))
+    case.answers("boot with spares", ("boot", "spares", "4"), DONE, BOOT_OLD)
+    case.answers("replay with spares", ("replay", "spares", "4"), DONE, INSTALLED)
+    case.answers("boot of the update with spares", ("boot", "spares", "4"), DONE, BOOT_NEW)
+    case.same("the update with spares", folder.read("image.bin"), FIRST + SECOND)
+    case.answers("an image that does not fit beside spares", ("format", "large.bin", "spares", "4"), NO_FIT, err="image does not fit")
+    case.answers("so many spares that too few blocks are left", ("boot", "spares", "7"), GEOMETRY, err="flash has a wrong geometry")
+    case.answers("as many as are possible", ("format", "old.bin", "spares", "6"), DONE, "formatted bytes %d\n" % len(OLD))
 
 
 def carousels(case):
@@ -309,7 +348,7 @@ def a_night(case):
 
 def work(folder):
     case = Case(folder)
-    for cases in (words_of_the_command_line, sections, times, a_small_broadcast, audits, plans_and_boxes, offers, flashes, replays, carousels,
+    for cases in (words_of_the_command_line, sections, times, a_small_broadcast, audits, samples, plans_and_boxes, offers, flashes, replays, spares, carousels,
                   faults_of_files, limits, a_night):
         folder.clear()
         cases(case)

@@ -10,6 +10,7 @@ usage: outside/stack.py            exits with 0 where no command needs more than
 import resource
 import sys
 
+from kill_migrate import layout_one
 from program import PLAN, in_folder
 
 MOST, USUAL, STEP = 128, 8192, 4
@@ -21,7 +22,8 @@ end = "2024-04-01T01:00:00"
 period_hours = 24
 duration_hours = 2
 """
-COMMANDS = [("hear", "258"), ("load", "258"), ("find",), ("show",), ("build",), ("blank", "8"), ("format", "first.bin"), ("boot",), ("replay",), ("air",), ("audit", "258", "257"), ("sample", "0")]
+COMMANDS = [("hear", "258"), ("load", "258"), ("find",), ("show",), ("build",), ("blank", "8"), ("format", "first.bin"), ("boot",), ("migrate",), ("replay",),
+            ("format", "first.bin", "spares", "1"), ("boot", "spares", "1"), ("replay", "spares", "1"), ("air",), ("audit", "258", "257"), ("sample", "0")]
 
 
 def run(folder, words, kibibytes):
@@ -52,18 +54,18 @@ def least(folder, words, before):
 
 
 def work(folder):
-    folder.prepare()
+    folder.prepare(8)
     folder.write("plan.toml", PLAN.replace("[[group]]", MORE + "[[group]]", 1))
     folder.must("build")
     before = folder.files()
-    print("%-18s least stack" % "command")
+    print("%-25s least stack" % "command")
     most = 0
     for words in COMMANDS:
         folder.clear()
-        status, kibibytes = least(folder, words, before)
+        status, kibibytes = least(folder, words, {**before, "flash.bin": layout_one()} if words == ("migrate",) else before)
         if status != 0:
             sys.exit("%s ended with %d" % (" ".join(words), status))
-        print("%-18s %5d KiB" % (" ".join(words), kibibytes))
+        print("%-25s %5d KiB" % (" ".join(words), kibibytes))
         most = max(most, kibibytes)
     print("the most is %d KiB, of at most %d" % (most, MOST))
     return 0 if most <= MOST else 1

@@ -2,6 +2,8 @@
 #![tactic(auto)]
 
 #[cfg(test)]
+mod check;
+#[cfg(test)]
 mod ssu_answer_tests;
 #[cfg(test)]
 mod ssu_io_tests;

@@ -1,5 +1,6 @@
 //! The numbers and the names of the levels.
 
+use crate::check::same;
 use ssu_answer::Level;
 use std::test::Fail;
 
@@ -15,8 +16,8 @@ fn levels_have_their_numbers_and_names(rt: HostRuntime) -> Result<(), Fail> {
         (Level::Modules, 7, "modules"),
     ];
     for (level, number, name) in rows {
-        assert_eq!(rt; level.number(), number);
-        assert_eq!(rt; level.name(), name);
+        same(&rt, &level.number(), &number);
+        same(&rt, &level.name(), &name);
     }
     Ok(())
 }

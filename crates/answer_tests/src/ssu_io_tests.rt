@@ -1,5 +1,6 @@
 //! Sources, sinks and shelves, in memory and over files, and the names of files.
 
+use crate::check::same;
 use ssu_io::{
     Failed, FolderShelf, MemShelf, MemSink, MemSource, NoMemory, RealSink, RealSource, Shelf,
     ShelfError, Sink, Source, StdSink, file_name, is_file_name,
@@ -20,14 +21,19 @@ fn a_source_in_memory_gives_its_bytes_in_steps(rt: HostRuntime) -> Result<(), Fa
     let alloc = rt.alloc();
     let bytes = vec![in alloc; 1, 2, 3, 4, 5]?;
     let mut source = MemSource::new(bytes, 3, vec![in alloc; 2]?);
-    assert_eq!(rt; taken(alloc, &mut source, 2)?.as_slice(), [1, 2].as_slice());
-    let mut buf = [0u8; 4];
-    assert_eq!(rt; source.take(&mut buf), Err(Failed));
-    assert_eq!(rt;
-        taken(alloc, &mut source, 4)?.as_slice(),
-        [3, 4, 5].as_slice()
+    same(
+        &rt,
+        &taken(alloc, &mut source, 2)?.as_slice(),
+        &[1, 2].as_slice(),
     );
-    assert_eq!(rt; source.take(&mut buf), Ok(0));
+    let mut buf = [0u8; 4];
+    same(&rt, &source.take(&mut buf), &Err(Failed));
+    same(
+        &rt,
+        &taken(alloc, &mut source, 4)?.as_slice(),
+        &[3, 4, 5].as_slice(),
+    );
+    same(&rt, &source.take(&mut buf), &Ok(0));
     Ok(())
 }
 
@@ -35,12 +41,12 @@ fn a_source_in_memory_gives_its_bytes_in_steps(rt: HostRuntime) -> Result<(), Fa
 fn a_sink_in_memory_keeps_the_pieces(rt: HostRuntime) -> Result<(), Fail> {
     let alloc = rt.alloc();
     let mut sink = MemSink::new(alloc, vec![in alloc; 2]?);
-    assert_eq!(rt; sink.put(&[1, 2]), Ok(()));
-    assert_eq!(rt; sink.put(&[9]), Err(Failed));
-    assert_eq!(rt; sink.put(&[3]), Ok(()));
-    assert_eq!(rt; sink.bytes(), [1, 2, 3].as_slice());
+    same(&rt, &sink.put(&[1, 2]), &Ok(()));
+    same(&rt, &sink.put(&[9]), &Err(Failed));
+    same(&rt, &sink.put(&[3]), &Ok(()));
+    same(&rt, &sink.bytes(), &[1, 2, 3].as_slice());
     assert!(rt; !sink.is_short());
-    assert_eq!(rt; sink.into_bytes().as_slice(), [1, 2, 3].as_slice());
+    same(&rt, &sink.into_bytes().as_slice(), &[1, 2, 3].as_slice());
     Ok(())
 }
 
@@ -52,7 +58,7 @@ fn pushed(alloc: Global, n: u8) -> Result<Vec<u8>, NoMemory> {
 
 #[test]
 fn both_errors_of_memory_become_one(rt: HostRuntime) -> Result<(), Fail> {
-    assert_eq!(rt; pushed(rt.alloc(), 7)?.as_slice(), [7].as_slice());
+    same(&rt, &pushed(rt.alloc(), 7)?.as_slice(), &[7].as_slice());
     Ok(())
 }
 
@@ -62,18 +68,23 @@ fn a_file_is_made_at_the_first_byte_and_read_back(rt: HostRuntime) -> Result<(),
     let folder = env::temp_dir(&rt)?;
     let path = format!(in alloc; "{}/ssu_io_{}", folder.display(), process::id(rt.process()))?;
     let mut sink = RealSink::new(&rt, path.clone()?);
-    assert_eq!(rt; sink.put(&[]), Ok(()));
+    same(&rt, &sink.put(&[]), &Ok(()));
     let mut source = RealSource::new(&rt, path.clone()?);
     let mut buf = [0u8; 4];
-    assert_eq!(rt; source.take(&mut buf), Err(Failed));
-    assert_eq!(rt; sink.put(&[1, 2]), Ok(()));
-    assert_eq!(rt; sink.put(&[3, 4, 5]), Ok(()));
-    assert_eq!(rt;
-        taken(alloc, &mut source, 3)?.as_slice(),
-        [1, 2, 3].as_slice()
+    same(&rt, &source.take(&mut buf), &Err(Failed));
+    same(&rt, &sink.put(&[1, 2]), &Ok(()));
+    same(&rt, &sink.put(&[3, 4, 5]), &Ok(()));
+    same(
+        &rt,
+        &taken(alloc, &mut source, 3)?.as_slice(),
+        &[1, 2, 3].as_slice(),
     );
-    assert_eq!(rt; taken(alloc, &mut source, 4)?.as_slice(), [4, 5].as_slice());
-    assert_eq!(rt; source.take(&mut buf), Ok(0));
+    same(
+        &rt,
+        &taken(alloc, &mut source, 4)?.as_slice(),
+        &[4, 5].as_slice(),
+    );
+    same(&rt, &source.take(&mut buf), &Ok(0));
     fs::remove_file(&rt, &path)?;
     Ok(())
 }
@@ -90,10 +101,10 @@ fn a_long_file_is_written_and_read_back_byte_for_byte(rt: HostRuntime) -> Result
     let mut sink = RealSink::new(&rt, path.clone()?);
     // 200 pieces of 188 bytes, more than a source reads at once
     for n in 0..200u8 {
-        assert_eq!(rt; sink.put(&[n; 188]), Ok(()));
+        same(&rt, &sink.put(&[n; 188]), &Ok(()));
     }
     let bytes = fs::read(&rt, &path)?;
-    assert_eq!(rt; bytes.len(), 200 * 188);
+    same(&rt, &bytes.len(), &(200 * 188));
     let mut source = RealSource::new(&rt, path.clone()?);
     let mut read = Vec::new(alloc);
     let mut buf = [0u8; 100];
@@ -102,7 +113,7 @@ fn a_long_file_is_written_and_read_back_byte_for_byte(rt: HostRuntime) -> Result
         read.extend_from_slice(&buf[..n])?;
     }
     for (at, byte) in read.iter().enumerate() {
-        assert_eq!(rt; usize::from(*byte), at / 188);
+        same(&rt, &usize::from(*byte), &(at / 188));
     }
     assert!(rt; read == bytes);
     fs::remove_file(&rt, &path)?;
@@ -112,7 +123,7 @@ fn a_long_file_is_written_and_read_back_byte_for_byte(rt: HostRuntime) -> Result
 #[test]
 fn standard_output_takes_a_piece(rt: HostRuntime) -> Result<(), Fail> {
     let mut sink = StdSink::new(&rt);
-    assert_eq!(rt; sink.put(b"a piece\n"), Ok(()));
+    same(&rt, &sink.put(b"a piece\n"), &Ok(()));
     Ok(())
 }
 
@@ -139,9 +150,10 @@ fn a_shelf_in_memory_gives_the_bytes_added_last(rt: HostRuntime) -> Result<(), F
     shelf.add("a.bin", vec![in alloc; 4, 5, 6]?)?;
     assert!(rt; fetched(alloc, &mut shelf, "a.bin", &[4, 5, 6]));
     assert!(rt; fetched(alloc, &mut shelf, "b.bin", &[3]));
-    assert_eq!(rt;
-        refused(alloc, &mut shelf, "c.bin"),
-        Some(ShelfError::Absent)
+    same(
+        &rt,
+        &refused(alloc, &mut shelf, "c.bin"),
+        &Some(ShelfError::Absent),
     );
     Ok(())
 }
@@ -151,13 +163,15 @@ fn a_listed_call_fails_where_the_shelf_has_the_name(rt: HostRuntime) -> Result<(
     let alloc = rt.alloc();
     let mut shelf = MemShelf::new(alloc, vec![in alloc; 1, 2]?);
     shelf.add("box.toml", vec![in alloc; 7]?)?;
-    assert_eq!(rt;
-        refused(alloc, &mut shelf, "box.toml"),
-        Some(ShelfError::Failed)
+    same(
+        &rt,
+        &refused(alloc, &mut shelf, "box.toml"),
+        &Some(ShelfError::Failed),
     );
-    assert_eq!(rt;
-        refused(alloc, &mut shelf, "plan.toml"),
-        Some(ShelfError::Absent)
+    same(
+        &rt,
+        &refused(alloc, &mut shelf, "plan.toml"),
+        &Some(ShelfError::Absent),
     );
     assert!(rt; fetched(alloc, &mut shelf, "box.toml", &[7]));
     Ok(())
@@ -176,13 +190,15 @@ fn a_folder_gives_its_files_and_nothing_else(rt: HostRuntime) -> Result<(), Fail
     fs::write(&rt, file.as_str(), [1u8, 2, 3])?;
     let mut shelf = FolderShelf::new(&rt, folder.clone()?);
     assert!(rt; fetched(alloc, &mut shelf, "a.bin", &[1, 2, 3]));
-    assert_eq!(rt;
-        refused(alloc, &mut shelf, "b.bin"),
-        Some(ShelfError::Absent)
+    same(
+        &rt,
+        &refused(alloc, &mut shelf, "b.bin"),
+        &Some(ShelfError::Absent),
     );
-    assert_eq!(rt;
-        refused(alloc, &mut shelf, "inner"),
-        Some(ShelfError::Failed)
+    same(
+        &rt,
+        &refused(alloc, &mut shelf, "inner"),
+        &Some(ShelfError::Failed),
     );
     fs::remove_file(&rt, file.as_str())?;
     fs::remove_dir(&rt, inner.as_str())?;
@@ -193,14 +209,14 @@ fn a_folder_gives_its_files_and_nothing_else(rt: HostRuntime) -> Result<(), Fail
 #[test]
 fn names_of_files(rt: HostRuntime) -> Result<(), Fail> {
     for text in ["a", "a.bin", "A-1_2.", "_", "-x", "0"] {
-        assert!(rt; file_name(text).ok_or("a name")?.as_str() == text);
+        assert!(rt; file_name(text).expect(&rt, "a name").as_str() == text);
     }
     for text in ["", ".", ".a", "a b", "a/b", "ä"] {
         assert!(rt; !is_file_name(text));
         assert!(rt; file_name(text).is_none());
     }
     let longest = "abcdefghabcdefghabcdefghabcdefghabcdefghabcdefghabcdefghabcdefgh";
-    assert_eq!(rt; longest.len(), 64);
+    same(&rt, &longest.len(), &64);
     assert!(rt; is_file_name(longest));
     assert!(rt; !is_file_name("abcdefghabcdefghabcdefghabcdefghabcdefghabcdefghabcdefghabcdefghi"));
     Ok(())

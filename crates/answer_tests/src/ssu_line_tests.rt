@@ -1,12 +1,13 @@
 //! The lines that the commands print, word by word.
 
+use crate::check::same;
 use section_kind::SectionKind;
 use ssu_answer::{Chosen, Level};
 use ssu_compat::SwId;
 use ssu_line::{
-    Line, aired, audit_ok, audit_refused, bad_module, blank, booted, built, carousel, component,
-    formatted, groups, incomplete, installed, loaded, modules, nothing, notices, program, sampled,
-    services, shown, unsettled,
+    Line, aired, already, audit_ok, audit_refused, bad_module, blank, booted, built, carousel,
+    component, formatted, groups, incomplete, installed, loaded, migrated, modules, nothing,
+    notices, program, sampled, services, shown, unsettled,
 };
 use ssu_status::{AuditNo, AuditYes};
 use ssu_time::Utc;
@@ -28,7 +29,7 @@ fn results_are_told(rt: HostRuntime) -> Result<(), Fail> {
         software,
         bytes: 244000,
     };
-    let rows: [(Line, &str); 12] = [
+    let rows: [(Line, &str); 14] = [
         (loaded(2147483650, 9), "loaded group 2147483650 bytes 9\n"),
         (
             installed(chosen),
@@ -52,13 +53,15 @@ fn results_are_told(rt: HostRuntime) -> Result<(), Fail> {
         ),
         (blank(4), "blank 4\n"),
         (formatted(5), "formatted bytes 5\n"),
+        (migrated(16, 2), "migrated bytes 16 number 2\n"),
+        (already(2), "already layout 2 number 2\n"),
         (
             booted(1, 2, software, 244000),
             "boot bank 1 number 2 software 1.2 bytes 244000\n",
         ),
     ];
     for (line, text) in rows {
-        assert_eq!(rt; line.as_str(), text);
+        same(&rt, &line.as_str(), &text);
     }
     Ok(())
 }
@@ -69,7 +72,11 @@ fn audits_are_told(rt: HostRuntime) -> Result<(), Fail> {
         groups: 1,
         blocks: 65_536,
     };
-    assert_eq!(rt; audit_ok(yes).as_str(), "audit ok groups 1 blocks 65536\n");
+    same(
+        &rt,
+        &audit_ok(yes).as_str(),
+        &"audit ok groups 1 blocks 65536\n",
+    );
     let rows: [(AuditNo, &str); 11] = [
         (AuditNo::BlockDiffers(2, 5), "differ block 2 5\n"),
         (AuditNo::DsiDiffers(0, 3), "differ dsi 0 3\n"),
@@ -93,7 +100,7 @@ fn audits_are_told(rt: HostRuntime) -> Result<(), Fail> {
         (AuditNo::NoticeApart(7), "notice apart 7\n"),
     ];
     for (no, text) in rows {
-        assert_eq!(rt; audit_refused(no).as_str(), text);
+        same(&rt, &audit_refused(no).as_str(), &text);
     }
     Ok(())
 }
@@ -120,7 +127,7 @@ fn levels_are_told(rt: HostRuntime) -> Result<(), Fail> {
         (modules(None), "7 none\n"),
     ];
     for (line, text) in rows {
-        assert_eq!(rt; line.as_str(), text);
+        same(&rt, &line.as_str(), &text);
     }
     Ok(())
 }
@@ -143,7 +150,7 @@ fn sections_are_told(rt: HostRuntime) -> Result<(), Fail> {
         (shown(12, pid(0)?, 0, 13, None), "      12 0000 00   13 -\n"),
     ];
     for (line, text) in rows {
-        assert_eq!(rt; line.as_str(), text);
+        same(&rt, &line.as_str(), &text);
     }
     Ok(())
 }

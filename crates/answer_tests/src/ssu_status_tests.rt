@@ -1,5 +1,6 @@
 //! The words of each command, words that are none, and the code and the text of each status.
 
+use crate::check::same;
 use ssu_compat::SwId;
 use ssu_status::{
     AuditNo, BuildFault, Chosen, Command, FieldName, FileName, Level, Status, made_file,
@@ -18,11 +19,11 @@ fn owned(alloc: Global, words: &[&str]) -> Result<Vec<String>, AllocError> {
 
 #[test]
 fn the_words_of_each_command_are_read(rt: HostRuntime) -> Result<(), Fail> {
-    let pid = Pid::new(8191).ok_or("a PID")?;
-    let notice = Pid::new(257).ok_or("a PID")?;
+    let pid = Pid::new(8191).expect(&rt, "a PID");
+    let notice = Pid::new(257).expect(&rt, "a PID");
     let name = FileName::from("a.bin").map_err(|_| "a name")?;
     // words behind the folder, command, file that is made
-    let rows: [(&[&str], Command, &str); 15] = [
+    let rows: [(&[&str], Command, &str); 16] = [
         (&["hear", "8191"], Command::Hear(pid), ""),
         (&["load", "8191"], Command::Load(pid), "group.bin"),
         (&["find"], Command::Find, ""),
@@ -32,6 +33,7 @@ fn the_words_of_each_command_are_read(rt: HostRuntime) -> Result<(), Fail> {
         (&["blank", "65536"], Command::Blank(65_536), "flash.bin"),
         (&["format", "a.bin"], Command::Format(name), ""),
         (&["boot"], Command::Boot, "image.bin"),
+        (&["migrate"], Command::Migrate, ""),
         (&["replay"], Command::Replay, ""),
         (&["air"], Command::Air, "aired.ts"),
         (&["audit", "8191"], Command::Audit(pid), ""),
@@ -48,8 +50,8 @@ fn the_words_of_each_command_are_read(rt: HostRuntime) -> Result<(), Fail> {
         for word in behind {
             words.push(String::from_str(rt.alloc(), word)?)?;
         }
-        assert_eq!(rt; Command::parse(&words), Some(command));
-        assert_eq!(rt; made_file(&words).as_str(), made);
+        same(&rt, &Command::parse(&words), &Some(command));
+        same(&rt, &made_file(&words).as_str(), &made);
     }
     Ok(())
 }
@@ -90,7 +92,7 @@ fn other_words_are_no_command(rt: HostRuntime) -> Result<(), Fail> {
     ];
     for words in rows {
         let words = owned(rt.alloc(), words)?;
-        assert_eq!(rt; Command::parse(&words), None);
+        same(&rt, &Command::parse(&words), &None);
         assert!(rt; made_file(&words).is_empty());
     }
     Ok(())
@@ -143,8 +145,8 @@ fn each_status_has_its_code_and_text(rt: HostRuntime) -> Result<(), Fail> {
         (Status::AuditRefused(AuditNo::NoDsi), 21, ""),
     ];
     for (status, code, text) in rows {
-        assert_eq!(rt; status.code(), code);
-        assert_eq!(rt; status.text().as_str(), text);
+        same(&rt, &status.code(), &code);
+        same(&rt, &status.text().as_str(), &text);
     }
     Ok(())
 }

@@ -1,5 +1,6 @@
 //! A file and a box that are fetched from a shelf, and the status of each refusal.
 
+use crate::check::same;
 use arrayvec::ArrayString;
 use ssu_answer::FileName;
 use ssu_io::MemShelf;
@@ -32,12 +33,13 @@ fn a_file_and_a_box_are_had(rt: HostRuntime) -> Result<(), Fail> {
     let mut shelf = shelf_of(alloc, "box.toml", BOX, &[])?;
     let bytes = fetch(alloc, &mut shelf, &name("box.toml")?)
         .ok()
-        .ok_or("bytes")?;
-    assert_eq!(rt; bytes.as_slice(), BOX.as_bytes());
-    let file = read_box(alloc, &mut shelf).ok().ok_or("a box")?;
-    assert_eq!(rt;
-        (file.id.oui.get(), file.id.model, file.software.version),
-        (4660, 7, 2)
+        .expect(&rt, "bytes");
+    same(&rt, &bytes.as_slice(), &BOX.as_bytes());
+    let file = read_box(alloc, &mut shelf).ok().expect(&rt, "a box");
+    same(
+        &rt,
+        &(file.id.oui.get(), file.id.model, file.software.version),
+        &(4660, 7, 2),
     );
     Ok(())
 }
@@ -45,8 +47,8 @@ fn a_file_and_a_box_are_had(rt: HostRuntime) -> Result<(), Fail> {
 #[test]
 fn each_refusal_has_its_status(rt: HostRuntime) -> Result<(), Fail> {
     let alloc = rt.alloc();
-    let rule = ArrayString::from("rule").ok().ok_or("rule")?;
-    let text = ArrayString::from("text").ok().ok_or("text")?;
+    let rule = ArrayString::from("rule").ok().expect(&rt, "rule");
+    let text = ArrayString::from("text").ok().expect(&rt, "text");
     // the name of the file, its text, the calls that fail, the answer
     let rows: [(&str, &str, &[u32], Status); 4] = [
         ("other.toml", BOX, &[], Status::Absent(name("box.toml")?)),
@@ -56,7 +58,7 @@ fn each_refusal_has_its_status(rt: HostRuntime) -> Result<(), Fail> {
     ];
     for (file, said, fails, status) in rows {
         let mut shelf = shelf_of(alloc, file, said, fails)?;
-        assert_eq!(rt; read_box(alloc, &mut shelf).err(), Some(status));
+        same(&rt, &read_box(alloc, &mut shelf).err(), &Some(status));
     }
     Ok(())
 }

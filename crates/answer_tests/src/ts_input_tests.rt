@@ -1,5 +1,6 @@
 //! Packets over short takes, and how they end.
 
+use crate::check::same;
 use ssu_io::MemSource;
 use std::alloc::{AllocError, Global};
 use std::test::Fail;
@@ -35,10 +36,10 @@ fn packets_come_over_short_takes(rt: HostRuntime) -> Result<(), Fail> {
     ];
     for (len, step, fails, given, last) in rows {
         let mut air = source(alloc, len, step, fails)?;
-        assert_eq!(rt;
-            packets_of(&mut air),
-            Some((given, last)),
-            "{len} bytes in steps of {step}"
+        same(
+            &rt,
+            &(len, step, packets_of(&mut air)),
+            &(len, step, Some((given, last))),
         );
     }
     Ok(())

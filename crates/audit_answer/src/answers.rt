@@ -1,6 +1,6 @@
 //! The answers of an audit. ETSI EN 301 192, 8.1; ISO/IEC 13818-6, 7.3.
 
-/// Every receiver of the sections makes one image of each group.
+/// All receivers of some of the sections that have a group whole have one image of it.
 #[derive(Clone, Copy, Debug, PartialEq, Eq)]
 pub struct AuditYes {
     /// The number of groups of the DSI.
@@ -9,7 +9,8 @@ pub struct AuditYes {
     pub blocks: u32,
 }
 
-/// Why two receivers may make different images of a group, or one of them none.
+/// Why it is refused that all receivers that have a group whole have one image of it. `SizeDiffers`, `TooManyBlocks` and
+/// `NoticeApart` do not say that two of them have different images.
 ///
 /// Sections are named by their numbers: they are counted from 0 in the order in which they are heard.
 #[derive(Clone, Copy, Debug, PartialEq, Eq)]

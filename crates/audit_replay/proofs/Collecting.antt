@@ -19,7 +19,10 @@ use Rattle.ssu_audit.specs.Said.{dii_of_group}
 use Rattle.ssu_audit.proofs.Holding.{says_dii}
 use Rattle.ssu_audit.proofs.OneImages.{one_image_per_group}
 use Rattle.ssu_audit.proofs.Places.{contains-here, contains-later, first_or_other}
+use Rattle.ssu_group.specs.Carried.{CarriesWhole, Fills}
+use Rattle.ssu_loader.proofs.KeptLaws.{window_alone}
 use Rattle.ssu_loader.specs.Decisions.{IsWhole, Reaches, Whole}
+use Rattle.ssu_loader.specs.Opening.{KeepsNothing}
 use Rattle.ssu_route.specs.Choosing.{level_7}
 use Rattle.ssu_route.specs.Queries.{carousel_pid}
 use Rattle.ssu_route.specs.Windows.{beginnings, most_choices, standing, window, window_of}
@@ -107,8 +110,8 @@ value_of (Some n) some = (n, refl)
 abbrev Collects : Receiver → List Heard → Chosen → List ℕ → Type 0
 Collects me heard chosen image = (pid : ℕ) × ((dii : DiiFields) × IsCollected me heard chosen image pid dii)
 
-collected_now : (me : Receiver) (item : Heard) (earlier : List Heard) (chosen : Chosen) (image : List ℕ) → IsWhole me (item ∷ earlier) chosen image → Collects me (item ∷ earlier) chosen image
-collected_now me item earlier chosen image w =
+collected_now : (me : Receiver) → KeepsNothing me → (item : Heard) (earlier : List Heard) (chosen : Chosen) (image : List ℕ) → IsWhole me (item ∷ earlier) chosen image → Collects me (item ∷ earlier) chosen image
+collected_now me keeps item earlier chosen image w =
     let v = value_of (carousel_pid me (item ∷ earlier)) (carousel_stands me (item ∷ earlier) (level_stands me (item ∷ earlier) w.standing.stands)) in (
       v.0,
       (
@@ -121,7 +124,8 @@ collected_now me item earlier chosen image w =
           choice = w.choice;
           standing = w.standing;
           is = w.is;
-          whole = w.whole;
+          whole = subst (λ (fills : Fills). CarriesWhole w.choice.plan fills image)
+              (window_alone me keeps (item ∷ earlier) w.choice.plan (level_stands me (item ∷ earlier) w.standing.stands)) w.whole;
           plan = w.standing.chosen.plan;
           on = v.1;
         },
@@ -149,11 +153,11 @@ collected_later me item earlier chosen image c =
       ),
     )
 
-pub collected : (me : Receiver) (heard : List Heard) (chosen : Chosen) (image : List ℕ) → Reaches me heard (Whole chosen image) → Collects me heard chosen image
+pub collected : (me : Receiver) → KeepsNothing me → (heard : List Heard) (chosen : Chosen) (image : List ℕ) → Reaches me heard (Whole chosen image) → Collects me heard chosen image
 unfolding Reaches
-collected me [] chosen image r = absurd r
-collected me (item ∷ earlier) chosen image (inl r) = collected_later me item earlier chosen image (collected me earlier chosen image r)
-collected me (item ∷ earlier) chosen image (inr r) = collected_now me item earlier chosen image r.1
+collected me keeps [] chosen image r = absurd r
+collected me keeps (item ∷ earlier) chosen image (inl r) = collected_later me item earlier chosen image (collected me keeps earlier chosen image r)
+collected me keeps (item ∷ earlier) chosen image (inr r) = collected_now me keeps item earlier chosen image r.1
 
 -- ---- one image
 

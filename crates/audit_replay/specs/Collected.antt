@@ -2,13 +2,13 @@
 use Rattle.std.specs.Prelude.{◌≡◌, ℕ, Contains, List, ◌∷◌, ◌++◌, Option, Some}
 use Rattle.dsmcc_msg.specs.Control.{DiiFields, DsiFields, GroupFields, dii as dii_format, dsi as dsi_format}
 use Rattle.flash_bank.specs.Leaving.{Installs}
-use Rattle.flash_bank.specs.Layout.{Geometry}
+use Rattle.flash_layout.specs.Layout.{Geometry}
 use Rattle.flash_bank.specs.Sound.{Boot, BootOf}
 use Rattle.route_tables.specs.Values.{Receiver}
 use Rattle.ssu_answer.specs.declared.chosen.Chosen.{Chosen}
 use Rattle.ssu_audit.specs.Calls.{Call, carousel}
 use Rattle.ssu_audit.specs.OneImage.{HasOneImage}
-use Rattle.ssu_group.specs.Carried.{CarriesWhole}
+use Rattle.ssu_group.specs.Carried.{CarriesWhole, filling}
 use Rattle.ssu_group.specs.Lays.{IsPlanOf}
 use Rattle.ssu_io.specs.Bytes.{Takes}
 use Rattle.ssu_loader.specs.Decisions.{IsStanding, Reaches, Whole, chosen_of}
@@ -28,7 +28,7 @@ pub record IsCollected (me : Receiver) (heard : List Heard) (chosen : Chosen) (i
   pub choice : Choice
   pub standing : IsStanding me (item ∷ earlier) choice
   pub is : chosen ≡ chosen_of choice
-  pub whole : CarriesWhole choice.plan (window me (item ∷ earlier)) image
+  pub whole : CarriesWhole choice.plan (filling choice.plan (window me (item ∷ earlier))) image
   pub plan : IsPlanOf dii choice.plan
   pub on : carousel_pid me (item ∷ earlier) ≡ Some pid
 

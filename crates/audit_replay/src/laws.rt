@@ -3,7 +3,7 @@
 ghost use Rattle.std.specs.Prelude.{ℕ, List, Ok, Option};
 ghost use Rattle.audit_answer.specs.declared.answers.AuditYes.{AuditYes};
 ghost use Rattle.dsmcc_msg.specs.Control.{DiiFields};
-ghost use Rattle.flash_bank.specs.Layout.{Geometry};
+ghost use Rattle.flash_layout.specs.Layout.{Geometry};
 ghost use Rattle.route_tables.specs.Values.{Receiver};
 ghost use Rattle.ssu_answer.specs.declared.chosen.Chosen.{Chosen};
 ghost use Rattle.ssu_audit.specs.Calls.{Call, carousel};
@@ -11,13 +11,14 @@ ghost use Rattle.ssu_audit.specs.Ending.{Ends};
 ghost use Rattle.ssu_audit.specs.Hearing.{IsOpen};
 ghost use Rattle.ssu_audit.specs.OneImage.{HasOneImage};
 ghost use Rattle.ssu_loader.specs.Decisions.{Reaches, Whole};
+ghost use Rattle.ssu_loader.specs.Opening.{KeepsNothing};
 ghost use Rattle.ssu_loader.specs.Replays.{TakesAndInstalls};
 ghost use Rattle.ts_section.specs.Events.{Heard};
 ghost use Rattle.audit_replay.specs.Collected.{AreAudited, AreAuditedPackets, InstallsAudited, IsCollected, IsListed};
 
-/// A group that a box decides to install was collected from the sections on one PID, under one DII.
+/// A group that a box which keeps nothing decides to install was collected from the sections on one PID, under one DII.
 pub fn installed_groups_are_collected()
-    ensures { (me : Receiver) (heard : List Heard) (chosen : Chosen) (image : List ℕ) → Reaches me heard (Whole chosen image)
+    ensures { (me : Receiver) (heard : List Heard) (chosen : Chosen) (image : List ℕ) → KeepsNothing me → Reaches me heard (Whole chosen image)
         → (pid : ℕ) × ((dii : DiiFields) × IsCollected me heard chosen image pid dii) }
 {}
 

@@ -1,5 +1,6 @@
 //! A whole `box.toml`, the first bad field of others, and numbers out of their range.
 
+use crate::check::same;
 use box_file::{BoxFault, BoxFile, FieldName};
 use ssu_compat::{BoxId, Rule};
 use std::alloc::Global;
@@ -34,15 +35,19 @@ fn a_box_is_read(rt: HostRuntime) -> Result<(), Fail> {
         mac,
         serial,
     } = id;
-    assert_eq!(rt; oui.get(), 4660);
-    assert_eq!(rt; (model, version), (7, 1));
-    assert_eq!(rt; rule, Rule::Different);
-    assert_eq!(rt; (software.model, software.version), (1, 2));
+    same(&rt, &oui.get(), &4660);
+    same(&rt, &(model, version), &(7, 1));
+    same(&rt, &rule, &Rule::Different);
+    same(&rt, &(software.model, software.version), &(1, 2));
     assert!(rt; manual);
-    assert_eq!(rt; mac, Some([0x00, 0x12, 0x34, 0x56, 0x78, 0x9A]));
-    assert!(rt; serial.ok_or("serial")?.as_slice() == b"A 1~".as_slice());
-    let service = service.ok_or("service")?;
-    assert_eq!(rt; (service.ts, service.network, service.service), (1, 2, 3));
+    same(&rt, &mac, &Some([0x00, 0x12, 0x34, 0x56, 0x78, 0x9A]));
+    assert!(rt; serial.expect(&rt, "serial").as_slice() == b"A 1~".as_slice());
+    let service = service.expect(&rt, "service");
+    same(
+        &rt,
+        &(service.ts, service.network, service.service),
+        &(1, 2, 3),
+    );
     Ok(())
 }
 
@@ -65,7 +70,7 @@ fn the_first_bad_field_is_named(rt: HostRuntime) -> Result<(), Fail> {
         ),
     ] {
         let text = format!(in rt.alloc(); "{start}{more}")?;
-        let name = bad_field(rt.alloc(), text.as_str()).ok_or("not refused at a field")?;
+        let name = bad_field(rt.alloc(), text.as_str()).expect(&rt, "not refused at a field");
         assert!(rt; name.as_str() == field);
     }
     Ok(())
@@ -79,7 +84,7 @@ fn a_number_out_of_its_range_is_refused(rt: HostRuntime) -> Result<(), Fail> {
         ("oui = 0\nmodel = 0.0\nversion = 65536", "model"),
         ("oui = 0\nmodel = 0\nversion = 65536", "version"),
     ] {
-        let name = bad_field(rt.alloc(), text).ok_or("not refused at a field")?;
+        let name = bad_field(rt.alloc(), text).expect(&rt, "not refused at a field");
         assert!(rt; name.as_str() == field);
     }
     Ok(())

@@ -3,6 +3,7 @@
 ghost use Rattle.std.specs.Prelude.{◌≤◌, IfOk};
 ghost use Rattle.group_image.specs.Image.{IsFor};
 
+use crate::check::same;
 use dsmcc_msg::{Ddb, Dii, DiiWriter};
 use group_image::{GroupImage, places_join_to_image, whole_image_has_all_bytes};
 use ssu_group::GroupPlan;
@@ -47,7 +48,7 @@ fn places_come_in_any_order(rt: HostRuntime) -> Result<(), Fail> {
     whole_image_has_all_bytes();
     let plan = plan(rt.alloc())?;
     let mut image = GroupImage::new(rt.alloc(), &plan)?;
-    assert_eq!(rt; image.missing(), 3);
+    same(&rt, &image.missing(), &3);
     // module, block, bytes, how many are missing then
     let rows: [(u16, u16, &[u8], u32); 6] = [
         (2, 0, b"678", 2),
@@ -59,18 +60,18 @@ fn places_come_in_any_order(rt: HostRuntime) -> Result<(), Fail> {
     ];
     for (id, block, bytes, missing) in rows {
         offer(&mut image, &plan, id, block, bytes);
-        assert_eq!(rt; image.missing(), missing);
+        same(&rt, &image.missing(), &missing);
     }
-    assert_eq!(rt; image.bytes(), b"12345678".as_slice());
+    same(&rt, &image.bytes(), &b"12345678".as_slice());
     // CRC-32/MPEG-2 of the text 678
     for module in plan.modules.as_slice() {
         let end = u64::from(module.at) + u64::from(module.size);
         if module.id == 2 && end <= u64::from(plan.total) {
-            assert_eq!(rt; image.module_crc(module), ts_crc::crc(b"678"));
+            same(&rt, &image.module_crc(module), &ts_crc::crc(b"678"));
         }
     }
     let bytes = image.into_bytes();
-    assert_eq!(rt; bytes.as_slice(), b"12345678".as_slice());
+    same(&rt, &bytes.as_slice(), &b"12345678".as_slice());
     Ok(())
 }
 
@@ -78,9 +79,9 @@ fn places_come_in_any_order(rt: HostRuntime) -> Result<(), Fail> {
 fn a_group_begins_without_places(rt: HostRuntime) -> Result<(), Fail> {
     let plan = plan(rt.alloc())?;
     let mut image = GroupImage::with_room(rt.alloc(), 8)?;
-    assert_eq!(rt; image.missing(), 0);
+    same(&rt, &image.missing(), &0);
     image.start(&plan);
-    assert_eq!(rt; image.missing(), 3);
-    assert_eq!(rt; image.bytes().len(), 8);
+    same(&rt, &image.missing(), &3);
+    same(&rt, &image.bytes().len(), &8);
     Ok(())
 }

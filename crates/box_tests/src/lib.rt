@@ -4,6 +4,8 @@
 #[cfg(test)]
 mod box_file_tests;
 #[cfg(test)]
+mod check;
+#[cfg(test)]
 mod group_image_tests;
 #[cfg(test)]
 mod route_part_tests;

@@ -2,6 +2,7 @@
 
 ghost use Rattle.std.specs.Prelude.{length, ◌≤◌};
 
+use crate::check::same;
 use box_file::BoxFile;
 use route_tables::*;
 use section_form::table_section;
@@ -127,7 +128,7 @@ fn a_box_comes_to_its_carousel_section_by_section(rt: HostRuntime) -> Result<(),
     ];
     for (number, bytes, expected) in rows {
         tables.hear(pid(number), &bytes);
-        assert_eq!(rt; seen(&tables), expected);
+        same(&rt, &seen(&tables), &expected);
     }
     assert!(rt; !tables.needs_notice());
     Ok(())
@@ -143,7 +144,7 @@ fn a_configured_service_is_the_only_one(rt: HostRuntime) -> Result<(), Fail> {
     let mut tables = Tables::new(&the_box(Some(service))?);
     tables.hear(pid(0x0010), &section(rt.alloc(), 0x40, 5, LINKED)?);
     tables.hear(pid(0x0000), &section(rt.alloc(), 0x00, 1, PROGRAMS)?);
-    assert_eq!(rt; seen(&tables), (1, 0, 0, 0, 0));
+    same(&rt, &seen(&tables), &(1, 0, 0, 0, 0));
     levels_stay();
     Ok(())
 }

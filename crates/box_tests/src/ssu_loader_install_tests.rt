@@ -2,6 +2,7 @@
 
 ghost use Rattle.std.specs.Prelude.{length, ◌≤◌};
 
+use crate::check::same;
 use box_file::BoxFile;
 use dsmcc_msg::{Ddb, DiiWriter, DsiWriter, write_ddb};
 use flash_bank::{boot, format};
@@ -261,8 +262,8 @@ fn a_carousel_comes_to_its_verdict(rt: HostRuntime) -> Result<(), Fail> {
     ];
     for (block_size, sent, verdict, image) in rows {
         let (came, booted) = came(alloc, block_size, sent)?;
-        assert_eq!(rt; came, verdict);
-        assert_eq!(rt; booted.as_slice(), image);
+        same(&rt, &came, &verdict);
+        same(&rt, &booted.as_slice(), &image);
     }
     Ok(())
 }
@@ -281,8 +282,8 @@ fn no_more_than_sixteen_choices_begin(rt: HostRuntime) -> Result<(), Fail> {
             sent.push(Next::Module(GROUP, k % 2, CRC_INFO))?;
         }
         let (came, booted) = came(alloc, 4066, &sent)?;
-        assert_eq!(rt; came, verdict);
-        assert_eq!(rt; booted.as_slice(), OLD_IMAGE);
+        same(&rt, &came, &verdict);
+        same(&rt, &booted.as_slice(), &OLD_IMAGE);
     }
     Ok(())
 }

@@ -1,5 +1,6 @@
 //! Replays over a flash in memory.
 
+use crate::check::same;
 use box_file::BoxFile;
 use flash_bank::format;
 use flash_dev::MemFlash;
@@ -34,9 +35,10 @@ fn answer(
 fn a_replay_ends(rt: HostRuntime) -> Result<(), Fail> {
     let alloc = rt.alloc();
     let mut flash = MemFlash::blank(alloc, 6, 256, 64)?;
-    assert_eq!(rt;
-        answer(alloc, &mut flash, 376, &[])?,
-        Err(LoadFault::Foreign)
+    same(
+        &rt,
+        &answer(alloc, &mut flash, 376, &[])?,
+        &Err(LoadFault::Foreign),
     );
     format(&mut flash, &[1, 2, 3], OLD)?;
     let none: [u32; 0] = [];
@@ -47,10 +49,10 @@ fn a_replay_ends(rt: HostRuntime) -> Result<(), Fail> {
         (400, &[5], Err(LoadFault::ReadFault)),
     ];
     for (len, fails, wanted) in rows {
-        assert_eq!(rt;
-            answer(alloc, &mut flash, len, fails)?,
-            wanted,
-            "{len} bytes"
+        same(
+            &rt,
+            &(len, answer(alloc, &mut flash, len, fails)?),
+            &(len, wanted),
         );
     }
     Ok(())

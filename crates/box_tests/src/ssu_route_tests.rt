@@ -2,6 +2,7 @@
 
 ghost use Rattle.std.specs.Prelude.{length, ◌≤◌};
 
+use crate::check::same;
 use box_file::BoxFile;
 use dsmcc_msg::{DiiWriter, DsiWriter};
 use section_form::{LongForm, long_section};
@@ -159,21 +160,22 @@ fn without_one_section_its_level_is_missing(rt: HostRuntime) -> Result<(), Fail>
     for skipped in 0..8usize {
         let mut route = HeapRoute::new(alloc, &the_box(None), 8192)
             .ok()
-            .ok_or("memory")?;
+            .expect(&rt, "memory");
         for (k, (number, bytes, _)) in rows.iter().enumerate() {
             if k != skipped {
                 route.hear(pid(*number), bytes, RUNNING);
             }
         }
         if skipped < 7 {
-            assert_eq!(rt; chosen(route.choice()), 0);
-            assert_eq!(rt; route.missing(), rows[skipped].2);
+            same(&rt, &chosen(route.choice()), &0);
+            same(&rt, &route.missing(), &rows[skipped].2);
         } else {
-            assert_eq!(rt; chosen(route.choice()), 2);
-            assert_eq!(rt; route.listens().len(), 7);
-            assert_eq!(rt;
-                route.report(),
-                Report {
+            same(&rt, &chosen(route.choice()), &2);
+            same(&rt, &route.listens().len(), &7);
+            same(
+                &rt,
+                &route.report(),
+                &Report {
                     services: 1,
                     program: Some((3, pid(256))),
                     component: Some((pid(259), 2)),
@@ -181,7 +183,7 @@ fn without_one_section_its_level_is_missing(rt: HostRuntime) -> Result<(), Fail>
                     carousel: Some(pid(258)),
                     groups: 1,
                     modules: Some((1, 1)),
-                }
+                },
             );
         }
     }
@@ -212,17 +214,18 @@ fn each_section_changes_the_choice_as_told(rt: HostRuntime) -> Result<(), Fail> 
         (dii(alloc, 2, 1, 0, &[])?, Change::Chosen, 2),
     ];
     for (bytes, expected, group) in rows {
-        assert_eq!(rt; route.hear(pid(258), &bytes, RUNNING), expected);
-        assert_eq!(rt; chosen(route.choice()), group);
+        same(&rt, &route.hear(pid(258), &bytes, RUNNING), &expected);
+        same(&rt, &chosen(route.choice()), &group);
     }
     // Another PID, and another transaction in the highest bit.
     let other = dii(alloc, 0x8000_0002, 1, 0, COMPRESSED)?;
-    assert_eq!(rt;
-        route.hear(pid(259), &dii(alloc, 2, 1, 0, COMPRESSED)?, RUNNING),
-        Change::Same
+    same(
+        &rt,
+        &route.hear(pid(259), &dii(alloc, 2, 1, 0, COMPRESSED)?, RUNNING),
+        &Change::Same,
     );
-    assert_eq!(rt; route.hear(pid(258), &other, RUNNING), Change::Same);
-    assert_eq!(rt; route.carousel(), Some(pid(258)));
+    same(&rt, &route.hear(pid(258), &other, RUNNING), &Change::Same);
+    same(&rt, &route.carousel(), &Some(pid(258)));
     changes_tell();
     windows_grow();
     choices_count();
@@ -239,10 +242,10 @@ fn the_first_32_groups_and_506_modules_are_kept(rt: HostRuntime) -> Result<(), F
         groups[k].0 = 100 + k as u32;
     }
     route.hear(pid(258), &dsi(alloc, &groups)?, RUNNING);
-    assert_eq!(rt; route.report().groups, 32);
+    same(&rt, &route.report().groups, &32);
     let change = route.hear(pid(258), &dii(alloc, 100, 506, 0, &[])?, RUNNING);
-    assert_eq!(rt; change, Change::Chosen);
-    assert_eq!(rt; route.report().modules, Some((506, 506)));
-    assert_eq!(rt; route.missing(), Level::Modules);
+    same(&rt, &change, &Change::Chosen);
+    same(&rt, &route.report().modules, &Some((506, 506)));
+    same(&rt, &route.missing(), &Level::Modules);
     Ok(())
 }

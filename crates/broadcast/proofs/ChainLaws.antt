@@ -11,7 +11,8 @@ use Rattle.broadcast.specs.declared.fault.ChainFault.TheVariants as chain
 use Rattle.broadcast.specs.declared.outcome.Outcome.{Outcome}
 use Rattle.broadcast_laws.specs.OneOf.{IsGroupForBox}
 use Rattle.broadcast.proofs.CameLaws.{IsOnAir, broken_at, bytes_of_air, came, either_left, head_after, left_so, more, seen_over}
-use Rattle.flash_bank.specs.Layout.{Geometry, HoldsRecord, IsInLimits, blocks_of}
+use Rattle.flash_layout.specs.Layout.{Geometry, IsInLimits, blocks_of}
+use Rattle.flash_bank.specs.Layout.{HoldsRecord}
 use Rattle.flash_bank.specs.Leaving.{KeepsBoot}
 use Rattle.flash_bank.specs.Runs.{OnlyReads}
 use Rattle.flash_bank.specs.Seen.{flash_seen}
@@ -118,8 +119,8 @@ module _ {F : Type 0} (f : FlashGhosts F) (b : Broadcast) (box_file : BoxFile) w
       let g = blocks_of f old in
       let at = r.at_any_moment tells sound former boots in
       record {
-        left = weaker f.moment f.left_since old new (ReplayLeaves me (Some (bytes_of_air b)) (Some rest) g x) (Leaves old former) (λ c left. left_so b me rest g former x c air boots left) at.left;
-        held = left_so b me rest g former x (f.contents new) air boots at.held;
+        left = weaker f.moment f.left_since old new (ReplayLeaves me (Some (bytes_of_air b)) (Some rest) g x) (Leaves old former) (λ c left. left_so b me refl rest g former x c air boots left) at.left;
+        held = left_so b me refl rest g former x (f.contents new) air boots at.held;
       }
 
   -- ---- without a verdict
@@ -185,7 +186,7 @@ module _ {F : Type 0} (f : FlashGhosts F) (b : Broadcast) (box_file : BoxFile) w
         let me = receiver_under box_file (blocks_of f old) former.head in
         let ends = subst (λ (h : Record). EndsWith true (receiver_under box_file (blocks_of f old) h) (Some (bytes_of_air b)) (Some rest) (blocks_of f old) (f.contents old) (f.contents mid) verdict)
         (sym (comes.boots tells former boots)) (comes.fact.1 tells) in
-        came b me rest (blocks_of f old) former (f.contents old) (f.contents mid) verdict air boots ends
+        came b me refl rest (blocks_of f old) former (f.contents old) (f.contents mid) verdict air boots ends
 
     came_then : f.tells → (former : Boot) → BootOf (blocks_of f old) (f.contents old) former
         → Came b (receiver_under box_file (blocks_of f old) former.head) (blocks_of f old) former.head (f.contents old) (f.contents new) verdict

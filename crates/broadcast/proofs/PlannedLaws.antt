@@ -10,7 +10,11 @@ use Rattle.broadcast_laws.proofs.HeardLaws.{heard_right, right_later}
 use Rattle.broadcast_laws.proofs.Lists.{there}
 use Rattle.route_tables.specs.Values.{Receiver}
 use Rattle.ssu_answer.specs.declared.chosen.Chosen.{Chosen}
+use Rattle.ssu_group.specs.Carried.{CarriesWhole, Fills}
+use Rattle.ssu_loader.proofs.KeptLaws.{window_alone}
+use Rattle.ssu_loader.proofs.WrongLaws.{standing_some}
 use Rattle.ssu_loader.specs.Decisions.{IsWhole, Reaches, Whole}
+use Rattle.ssu_loader.specs.Opening.{KeepsNothing}
 use Rattle.ts_section.specs.Events.{Heard}
 
 -- The group is carried whole where some of the sections, the newest left out, were heard.
@@ -28,12 +32,14 @@ whole_before me (item ∷ earlier) chosen image reached = elim reached [
 ]
 
 pub planned_group : (b : Broadcast) (me : Receiver) (front back : List (List ℕ)) (chosen : Chosen) (image : List ℕ) → IsSent b.plan b.images → aired_packets b ≡ front ++ back
-    → Reaches me (heard_over me front) (Whole chosen image) → IsUnspoilt b → IsGroupForBox b.plan b.images me chosen.group chosen.software image
-planned_group b me front back chosen image sent parts reached unspoilt =
+    → KeepsNothing me → Reaches me (heard_over me front) (Whole chosen image) → IsUnspoilt b → IsGroupForBox b.plan b.images me chosen.group chosen.software image
+planned_group b me front back chosen image sent parts keeps reached unspoilt =
     let w = whole_before me (heard_over me front) chosen image reached in
     let choice = w.whole.choice in
     let of_plan : (item : Heard) → Contains w.earlier item → IsOfPlan b.plan b.images item.section =
     λ item c table. unspoilt item.section
     (subst (λ (ps : List (List ℕ)). IsRightIn ps item.section) (sym parts) (right_later front back item.section (heard_right me front item (w.own item c)))) table in
-    let group = is_for_box b.plan b.images sent me w.earlier of_plan choice image w.whole.standing.chosen w.whole.whole in
+    let carried = subst (λ (fills : Fills). CarriesWhole choice.plan fills image)
+    (window_alone me keeps w.earlier choice.plan (standing_some me w.earlier w.whole.standing.stands)) w.whole.whole in
+    let group = is_for_box b.plan b.images sent me w.earlier of_plan choice image w.whole.standing.chosen carried in
     subst (λ (c : Chosen). IsGroupForBox b.plan b.images me c.group c.software image) (sym w.whole.is) group

@@ -6,7 +6,7 @@ use Rattle.broadcast.specs.declared.fault.ChainFault.{ChainFault}
 use Rattle.broadcast.specs.declared.fault.ChainFault.TheVariants.{Boot, Build, Load, Memory}
 use Rattle.broadcast.specs.declared.outcome.Outcome.{Outcome}
 use Rattle.broadcast_laws.specs.OneOf.{IsGroupForBox}
-use Rattle.flash_bank.specs.Layout.{Geometry, IsInLimits}
+use Rattle.flash_layout.specs.Layout.{Geometry, IsInLimits}
 use Rattle.flash_bank.specs.Leaving.{KeepsBoot}
 use Rattle.flash_bank.specs.Seen.{FlashSeen}
 use Rattle.flash_bank.specs.Sound.{Boot as Booted, BootOf, IsSound, IsWorn}

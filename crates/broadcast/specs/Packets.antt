@@ -5,7 +5,7 @@ use Rattle.air_channel.specs.Scripts.{ScriptData}
 use Rattle.broadcast_laws.specs.OneOf.{IsGroupForBox}
 use Rattle.broadcast_laws.specs.Planned.{sent_sections}
 use Rattle.broadcast_laws.specs.Undeceived.{IsUndeceived}
-use Rattle.flash_bank.specs.Layout.{Geometry}
+use Rattle.flash_layout.specs.Layout.{Geometry}
 use Rattle.flash_bank.specs.Leaving.{Installs}
 use Rattle.flash_bank.specs.declared.record.Record.{Record}
 use Rattle.head_carousel.specs.Sections.{sections_of}

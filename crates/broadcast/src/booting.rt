@@ -1,6 +1,6 @@
 //! What boot takes of a flash, in memory.
 ghost use Rattle.std.specs.Prelude.{◌↔◌, ◌≤◌, IfOk, IsErrOf};
-ghost use Rattle.flash_bank.specs.Layout.{IsInLimits, blocks_of};
+ghost use Rattle.flash_layout.specs.Layout.{IsInLimits, blocks_of};
 ghost use Rattle.flash_bank.specs.Runs.{OnlyReads};
 ghost use Rattle.flash_bank.specs.Sound.{BootOf, IsSound};
 ghost use Rattle.ssu_io.specs.Faults.{Rose};

@@ -293,7 +293,7 @@ read_at plan image n None bytes e some is = absurd cc
 read_at plan image n (Some q) bytes e some is = rw e (sym (is q e))
 
 pub joins_files : (p : PlanData) (images : List (List ℕ)) (g : GroupFiles) (plan : GroupPlan) (sections : List (List ℕ)) → IsSent p images → Contains (plan_groups p images) g
-    → IsPlanOf (dii_of (dii_draft g)) plan → All (IsOfPlan p images) sections → missing_places plan sections ≡ 0 → carried_image plan sections ≡ concat g.files
+    → IsPlanOf (dii_of (dii_draft g)) plan → All (IsOfPlan p images) sections → missing_places plan (filling plan sections) ≡ 0 → carried_image plan (filling plan sections) ≡ concat g.files
 joins_files p images g plan sections sent own is all filled =
     let under : IsUnder p images g plan = record { sent = sent; own = own; is = is } in
     let whole : Collected = record { map = record { most = plan.places; places = plan.places; bits = [] }; total = plan.total; buffer = concat g.files } in

@@ -5,7 +5,7 @@ use Rattle.std.specs.List.{All, filter, find}
 use Rattle.std.specs.Option.{option_and_then}
 use Rattle.std.proofs.lemmas.Bool.{and_parts, eq-eqb, eqb-true}
 use Rattle.std.proofs.lemmas.List.Elements.{All-contains_itself, All-weaker}
-use Rattle.dsmcc_msg.specs.Control.{DiiFields, dii}
+use Rattle.dsmcc_msg.specs.Control.{DiiFields}
 use Rattle.dsmcc_msg.specs.Written.{dii_of as dii_written}
 use Rattle.dsmcc_msg.proofs.Exact.{dii_exact}
 use Rattle.head_carousel.specs.Control.{dii_draft, group_fields, hardware_and_software}
@@ -18,7 +18,7 @@ use Rattle.ssu_answer.specs.Software.{no_software}
 use Rattle.ssu_compat.specs.Match.{admits, matches, offered}
 use Rattle.ssu_compat.specs.Written.{entry_of}
 use Rattle.ssu_compat.specs.declared.rule.SwId.{SwId}
-use Rattle.ssu_group.specs.Carried.{CarriesWhole}
+use Rattle.ssu_group.specs.Carried.{CarriesWhole, filling}
 use Rattle.ssu_group.specs.Lays.{IsPlanOf}
 use Rattle.route_part.specs.Part.{since}
 use Rattle.ssu_route.specs.Choosing.{group_of, level_6, level_7, wanted, wanted_at}
@@ -215,10 +215,10 @@ window_known p images me heard of_plan =
     (λ section c. let h = window_heard me heard section c in subst (IsOfPlan p images) h.is (of_plan h.item h.heard_so))
     (window me heard) (All-contains_itself (window me heard))
 
-pub is_for_box : (p : PlanData) (images : List (List ℕ)) → IsSent p images → (me : Receiver) (heard : List Heard) → ((item : Heard) → Contains heard item → IsOfPlan p images item.section)
-    → (choice : Choice) (image : List ℕ) → IsChoice me heard choice → CarriesWhole choice.plan (window me heard) image
-    → IsGroupForBox p images me choice.group choice.software image
-is_for_box p images sent me heard of_plan choice image is whole =
+pub is_for_box_over : (p : PlanData) (images : List (List ℕ)) → IsSent p images → (me : Receiver) (heard : List Heard) → ((item : Heard) → Contains heard item → IsOfPlan p images item.section)
+    → (sections : List (List ℕ)) → All (IsOfPlan p images) sections → (choice : Choice) (image : List ℕ) → IsChoice me heard choice
+    → CarriesWhole choice.plan (filling choice.plan sections) image → IsGroupForBox p images me choice.group choice.software image
+is_for_box_over p images sent me heard of_plan sections known choice image is whole =
     let dii_of_group = chosen p images me heard choice sent of_plan is in
     let g = dii_of_group.group in
     let offer = listed me heard choice.group is.group in
@@ -229,7 +229,7 @@ is_for_box p images sent me heard of_plan choice image is whole =
     let hardware = hardware_is p g.group me.file.id.oui me.file.id.model me.file.id.version matched in
     let admitted = subst (λ (x : GroupFiles). admits me.file.rule me.running (offered me.file.id.oui (group_fields p.oui x).compat) ≡ true) same of.admitted in
     let software = software_is p g me.file.id.oui hardware.oui_is in
-    let joined = joins_files p images g choice.plan (window me heard) sent dii_of_group.own dii_of_group.plan (window_known p images me heard of_plan) whole.filled in
+    let joined = joins_files p images g choice.plan sections sent dii_of_group.own dii_of_group.plan known whole.filled in
     record {
       group = g;
       own = dii_of_group.own;
@@ -243,3 +243,9 @@ is_for_box p images sent me heard of_plan choice image is whole =
       admitted = ap (admits me.file.rule me.running) (sym software) ∙ admitted;
       joined = whole.joins ∙ joined;
     }
+
+-- by the window of its choice
+pub is_for_box : (p : PlanData) (images : List (List ℕ)) → IsSent p images → (me : Receiver) (heard : List Heard) → ((item : Heard) → Contains heard item → IsOfPlan p images item.section)
+    → (choice : Choice) (image : List ℕ) → IsChoice me heard choice → CarriesWhole choice.plan (filling choice.plan (window me heard)) image
+    → IsGroupForBox p images me choice.group choice.software image
+is_for_box p images sent me heard of_plan = is_for_box_over p images sent me heard of_plan (window me heard) (window_known p images me heard of_plan)

@@ -11,7 +11,7 @@ ghost use Rattle.head_carousel.specs.Sections.{plan_groups};
 ghost use Rattle.head_plan.specs.Plans.{PlanData};
 ghost use Rattle.route_tables.specs.Values.{Receiver};
 ghost use Rattle.section_form.specs.Section.{table_id};
-ghost use Rattle.ssu_group.specs.Carried.{CarriesWhole, carried_image, missing_places};
+ghost use Rattle.ssu_group.specs.Carried.{CarriesWhole, carried_image, filling, missing_places};
 ghost use Rattle.ssu_group.specs.Lays.{IsPlanOf};
 ghost use Rattle.ssu_group.specs.declared.group_plan.GroupPlan.{GroupPlan};
 ghost use Rattle.ssu_route.specs.Choosing.{level_6, level_7};
@@ -90,7 +90,7 @@ pub fn groups_are_told_apart()
 pub fn blocks_join_to_files()
     ensures { (p : PlanData) (images : List (List ℕ)) (g : GroupFiles) (plan : GroupPlan) (sections : List (List ℕ)) → IsSent p images
         → Contains (plan_groups p images) g → IsPlanOf (dii_of (dii_draft g)) plan → All (IsOfPlan p images) sections
-        → missing_places plan sections ≡ 0 → carried_image plan sections ≡ concat g.files }
+        → missing_places plan (filling plan sections) ≡ 0 → carried_image plan (filling plan sections) ≡ concat g.files }
 {}
 
 // ---- the box and the plan
@@ -98,8 +98,16 @@ pub fn blocks_join_to_files()
 /// If a box heard nothing but sections of the plan, TDTs apart, then a group that its choice's window carries whole is a group of
 /// the plan for this box, and the image is its files, joined.
 pub fn heard_groups_are_planned()
-    ensures { (p : PlanData) (images : List (List ℕ)) → IsSent p images → (me : Receiver) (heard : List Heard)
+    ensures window { (p : PlanData) (images : List (List ℕ)) → IsSent p images → (me : Receiver) (heard : List Heard)
         → ((item : Heard) → Contains heard item → IsOfPlan p images item.section)
-        → (choice : Choice) (image : List ℕ) → IsChoice me heard choice → CarriesWhole choice.plan (window me heard) image
+        → (choice : Choice) (image : List ℕ) → IsChoice me heard choice
+        → CarriesWhole choice.plan (filling choice.plan (window me heard)) image
+        → IsGroupForBox p images me choice.group choice.software image }
+    // So is one that any sections of the plan carry whole, as those of the choices before, where their places are kept.
+    ensures sections { (p : PlanData) (images : List (List ℕ)) → IsSent p images → (me : Receiver) (heard : List Heard)
+        → ((item : Heard) → Contains heard item → IsOfPlan p images item.section)
+        → (sections : List (List ℕ)) → All (IsOfPlan p images) sections
+        → (choice : Choice) (image : List ℕ) → IsChoice me heard choice
+        → CarriesWhole choice.plan (filling choice.plan sections) image
         → IsGroupForBox p images me choice.group choice.software image }
 {}

@@ -2,6 +2,8 @@
 #![tactic(auto)]
 
 #[cfg(test)]
+mod check;
+#[cfg(test)]
 mod tool_air_tests;
 #[cfg(test)]
 mod tool_build_tests;
@@ -13,3 +15,5 @@ mod tool_flash_tests;
 mod tool_hear_tests;
 #[cfg(test)]
 mod tool_load_tests;
+#[cfg(test)]
+mod tool_migrate_tests;

@@ -1,5 +1,6 @@
 //! Small streams through scripts on a shelf in memory: what is put and printed, and what is refused.
 
+use crate::check::same;
 use ssu_io::{MemShelf, MemSink, MemSource};
 use ssu_status::Status;
 use std::alloc::Global;
@@ -62,10 +63,10 @@ fn packets_are_lost_repeated_and_exchanged(rt: HostRuntime) -> Result<(), Fail> 
     ];
     for (script, before, after, line) in rows {
         let outcome = run_air(alloc, script, before, Vec::new(alloc))?;
-        assert_eq!(rt; outcome.status, Status::Done);
+        same(&rt, &outcome.status, &Status::Done);
         let wanted = packets(alloc, after)?;
-        assert_eq!(rt; outcome.made.bytes(), wanted.as_slice());
-        assert_eq!(rt; outcome.out.bytes(), line.as_bytes());
+        same(&rt, &outcome.made.bytes(), &wanted.as_slice());
+        same(&rt, &outcome.out.bytes(), &line.as_bytes());
     }
     Ok(())
 }
@@ -76,9 +77,9 @@ fn a_changed_byte_changes_its_place_with_its_packet(rt: HostRuntime) -> Result<(
     let script = "set = [[0, 187, 33], [1, 0, 63]]\nswap = [0]";
     let outcome = run_air(alloc, script, "ab", Vec::new(alloc))?;
     let bytes = outcome.made.bytes();
-    assert_eq!(rt; bytes.first(), Some(&63));
-    assert_eq!(rt; bytes.get(1), Some(&98));
-    assert_eq!(rt; bytes.last(), Some(&33));
+    same(&rt, &bytes.first(), &Some(&63));
+    same(&rt, &bytes.get(1), &Some(&98));
+    same(&rt, &bytes.last(), &Some(&33));
     Ok(())
 }
 
@@ -113,7 +114,7 @@ fn the_first_bad_field_is_named(rt: HostRuntime) -> Result<(), Fail> {
     for (script, field) in rows {
         let outcome = run_air(alloc, script, "ab", Vec::new(alloc))?;
         let named = field_in(&outcome.status)?;
-        assert_eq!(rt; named.as_str(), field);
+        same(&rt, &named.as_str(), &field);
         assert!(rt; outcome.made.bytes().is_empty() && outcome.out.bytes().is_empty());
     }
     Ok(())
@@ -125,9 +126,9 @@ fn a_fault_ends_the_run(rt: HostRuntime) -> Result<(), Fail> {
     // the third packet is not taken: what was taken is put, and no line is printed
     let fails = [3].to_vec(alloc)?;
     let failed = run_air(alloc, "swap = [1]", "abcd", fails)?;
-    assert_eq!(rt; failed.status, Status::ReadFault);
+    same(&rt, &failed.status, &Status::ReadFault);
     let wanted = packets(alloc, "ab")?;
-    assert_eq!(rt; failed.made.bytes(), wanted.as_slice());
+    same(&rt, &failed.made.bytes(), &wanted.as_slice());
     assert!(rt; failed.out.bytes().is_empty());
     Ok(())
 }
@@ -143,8 +144,8 @@ fn a_sink_that_fails_is_a_write_fault(rt: HostRuntime) -> Result<(), Fail> {
         let mut made = MemSink::new(alloc, [made_fails].to_vec(alloc)?);
         let mut out = MemSink::new(alloc, [out_fails].to_vec(alloc)?);
         let status = air(alloc, &mut shelf, &mut source, &mut made, &mut out);
-        assert_eq!(rt; status, Status::WriteFault);
-        assert_eq!(rt; made.bytes().len(), put);
+        same(&rt, &status, &Status::WriteFault);
+        same(&rt, &made.bytes().len(), &put);
         assert!(rt; out.bytes().is_empty());
     }
     Ok(())
@@ -158,7 +159,7 @@ fn a_script_that_is_missing_is_named(rt: HostRuntime) -> Result<(), Fail> {
     let mut made = MemSink::new(alloc, Vec::new(alloc));
     let mut out = MemSink::new(alloc, Vec::new(alloc));
     match air(alloc, &mut shelf, &mut source, &mut made, &mut out) {
-        Status::Absent(name) => assert_eq!(rt; name.as_str(), "script.toml"),
+        Status::Absent(name) => same(&rt, &name.as_str(), &"script.toml"),
         _ => return Err(Fail::from("no name")),
     }
     Ok(())

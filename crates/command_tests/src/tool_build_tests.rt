@@ -1,5 +1,6 @@
 //! Plans on a shelf in memory: what is printed and put, and what is refused.
 
+use crate::check::same;
 use ssu_answer::{BuildFault, FileName};
 use ssu_io::{MemShelf, MemSink};
 use ssu_status::Status;
@@ -41,21 +42,34 @@ fn run_build(alloc: Global, mut shelf: MemShelf) -> Outcome {
 fn one_small_file_makes_seven_sections(rt: HostRuntime) -> Result<(), Fail> {
     let alloc = rt.alloc();
     let seven = run_build(alloc, shelf(alloc, "7", "modules = [\"a.bin\"]")?);
-    assert_eq!(rt; seven.status, Status::Done);
-    assert_eq!(rt; seven.out.bytes(), b"sections 7 packets 7\n".as_slice());
-    assert_eq!(rt; seven.made.bytes().len(), 7 * 188);
+    same(&rt, &seven.status, &Status::Done);
+    same(
+        &rt,
+        &seven.out.bytes(),
+        &b"sections 7 packets 7\n".as_slice(),
+    );
+    same(&rt, &seven.made.bytes().len(), &(7 * 188));
     // The eighth turn sends the data block again, on PID 258.
     let eight = run_build(alloc, shelf(alloc, "8", "modules = [\"a.bin\"]")?);
-    assert_eq!(rt; eight.out.bytes(), b"sections 7 packets 8\n".as_slice());
+    same(
+        &rt,
+        &eight.out.bytes(),
+        &b"sections 7 packets 8\n".as_slice(),
+    );
     let packets = eight.made.bytes();
-    assert_eq!(rt; packets.len(), 8 * 188);
+    assert!(rt; packets.len() == 8 * 188);
     // The packets differ only in their counters, 2 and 3, since DSI and DII go on the same PID before them.
     let header = [0x47, 0x41, 0x02];
     assert!(rt; packets[6 * 188..].starts_with(&header) && packets[7 * 188..].starts_with(&header));
-    assert_eq!(rt; (packets[6 * 188 + 3], packets[7 * 188 + 3]), (0x12, 0x13));
-    assert_eq!(rt;
-        &packets[6 * 188 + 4..7 * 188],
-        &packets[7 * 188 + 4..8 * 188]
+    same(
+        &rt,
+        &(packets[6 * 188 + 3], packets[7 * 188 + 3]),
+        &(0x12, 0x13),
+    );
+    same(
+        &rt,
+        &&packets[6 * 188 + 4..7 * 188],
+        &&packets[7 * 188 + 4..8 * 188],
     );
     Ok(())
 }
@@ -67,8 +81,12 @@ fn a_file_may_be_mentioned_twice(rt: HostRuntime) -> Result<(), Fail> {
         alloc,
         shelf(alloc, "8", "modules = [\"a.bin\", \"a.bin\"]")?,
     );
-    assert_eq!(rt; twice.status, Status::Done);
-    assert_eq!(rt; twice.out.bytes(), b"sections 8 packets 8\n".as_slice());
+    same(&rt, &twice.status, &Status::Done);
+    same(
+        &rt,
+        &twice.out.bytes(),
+        &b"sections 8 packets 8\n".as_slice(),
+    );
     Ok(())
 }
 
@@ -92,15 +110,15 @@ fn field_in(status: &Status) -> Result<FieldName, Fail> {
 fn what_is_missing_or_bad_is_named(rt: HostRuntime) -> Result<(), Fail> {
     let alloc = rt.alloc();
     let empty = run_build(alloc, MemShelf::new(alloc, Vec::new(alloc)));
-    assert_eq!(rt; name_in(&empty.status)?.as_str(), "plan.toml");
+    same(&rt, &name_in(&empty.status)?.as_str(), &"plan.toml");
     let missing = run_build(
         alloc,
         shelf(alloc, "7", "modules = [\"a.bin\", \"b.bin\"]")?,
     );
-    assert_eq!(rt; name_in(&missing.status)?.as_str(), "b.bin");
+    same(&rt, &name_in(&missing.status)?.as_str(), &"b.bin");
     assert!(rt; missing.made.bytes().is_empty() && missing.out.bytes().is_empty());
     let still = run_build(alloc, shelf(alloc, "0", "modules = [\"a.bin\"]")?);
-    assert_eq!(rt; field_in(&still.status)?.as_str(), "turns");
+    same(&rt, &field_in(&still.status)?.as_str(), &"turns");
     Ok(())
 }
 
@@ -110,7 +128,11 @@ fn a_file_of_65537_blocks_is_too_long(rt: HostRuntime) -> Result<(), Fail> {
     let group = "block_size = 1\nmodules = [\"a.bin\", \"b.bin\"]";
     let mut shelf = shelf(alloc, "7", group)?;
     shelf.add("b.bin", vec![in alloc; 1; 65_537]?)?;
-    assert_eq!(rt; name_in(&run_build(alloc, shelf).status)?.as_str(), "b.bin");
+    same(
+        &rt,
+        &name_in(&run_build(alloc, shelf).status)?.as_str(),
+        &"b.bin",
+    );
     Ok(())
 }
 
@@ -121,7 +143,7 @@ fn a_sink_that_fails_is_a_write_fault(rt: HostRuntime) -> Result<(), Fail> {
     let mut made = MemSink::new(alloc, vec![in alloc; 1]?);
     let mut out = MemSink::new(alloc, Vec::new(alloc));
     let status = build(alloc, &mut shelf, &mut made, &mut out);
-    assert_eq!(rt; status, Status::WriteFault);
+    same(&rt, &status, &Status::WriteFault);
     assert!(rt; made.bytes().is_empty() && out.bytes().is_empty());
     Ok(())
 }

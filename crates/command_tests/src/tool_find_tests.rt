@@ -1,5 +1,6 @@
 //! The levels and the sections that are printed of a short stream, and a box that is not to be had.
 
+use crate::check::same;
 use ssu_io::{MemShelf, MemSink, MemSource};
 use ssu_status::Status;
 use std::alloc::{AllocError, Global};
@@ -57,13 +58,21 @@ fn levels_are_printed_and_sections_shown(rt: HostRuntime) -> Result<(), Fail> {
     for input in [Vec::new(alloc), packets(alloc)?] {
         let mut air = MemSource::new(input, 100, Vec::new(alloc));
         let mut out = MemSink::new(alloc, Vec::new(alloc));
-        assert_eq!(rt; find(alloc, &mut files, &mut air, &mut out), Status::Done);
-        assert_eq!(rt; out.bytes(), NONE.as_bytes());
+        same(
+            &rt,
+            &find(alloc, &mut files, &mut air, &mut out),
+            &Status::Done,
+        );
+        same(&rt, &out.bytes(), &NONE.as_bytes());
     }
     let mut air = MemSource::new(packets(alloc)?, 100, Vec::new(alloc));
     let mut out = MemSink::new(alloc, Vec::new(alloc));
-    assert_eq!(rt; show(alloc, &mut files, &mut air, &mut out), Status::Done);
-    assert_eq!(rt; out.bytes().len(), TDT_SHOWN.len() + NONE.len());
+    same(
+        &rt,
+        &show(alloc, &mut files, &mut air, &mut out),
+        &Status::Done,
+    );
+    same(&rt, &out.bytes().len(), &(TDT_SHOWN.len() + NONE.len()));
     assert!(rt; out.bytes().starts_with(TDT_SHOWN.as_bytes()));
     assert!(rt; out.bytes().ends_with(NONE.as_bytes()));
     Ok(())
@@ -76,14 +85,15 @@ fn a_box_is_wanted_first(rt: HostRuntime) -> Result<(), Fail> {
     let mut air = MemSource::new(Vec::new(alloc), 1, Vec::new(alloc));
     let mut out = MemSink::new(alloc, Vec::new(alloc));
     let status = find(alloc, &mut files, &mut air, &mut out);
-    assert_eq!(rt; status.text().as_str(), "box.toml is absent");
+    same(&rt, &status.text().as_str(), &"box.toml is absent");
     let mut files = shelf(alloc, "oui = 1\nmodel = 1\nversion = 1\n", &[])?;
     let status = show(alloc, &mut files, &mut air, &mut out);
-    assert_eq!(rt; status.text().as_str(), "box.toml refused at rule");
+    same(&rt, &status.text().as_str(), &"box.toml refused at rule");
     let mut files = shelf(alloc, BOX, &[1])?;
-    assert_eq!(rt;
-        find(alloc, &mut files, &mut air, &mut out),
-        Status::ShelfFault
+    same(
+        &rt,
+        &find(alloc, &mut files, &mut air, &mut out),
+        &Status::ShelfFault,
     );
     assert!(rt; out.bytes().is_empty());
     Ok(())

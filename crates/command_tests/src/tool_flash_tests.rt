@@ -1,5 +1,6 @@
 //! A flash that is made, formatted and booted, and the status of each fault.
 
+use crate::check::same;
 use arrayvec::ArrayString;
 use flash_dev::{Flash, MemFlash, Tear};
 use ssu_answer::FileName;
@@ -65,21 +66,23 @@ fn a_formatted_flash_gives_its_file_back(rt: HostRuntime) -> Result<(), Fail> {
     let alloc = rt.alloc();
     let mut made = sink(alloc, &[])?;
     let mut out = sink(alloc, &[])?;
-    assert_eq!(rt; blank(6, &mut made, &mut out), Status::Done);
-    assert_eq!(rt; made.bytes().len(), 24576);
+    same(&rt, &blank(6, &mut made, &mut out), &Status::Done);
+    same(&rt, &made.bytes().len(), &24576);
     assert!(rt; made.bytes().iter().all(|byte| *byte == 255));
     let mut flash = flash_with(alloc, made.bytes())?;
     let mut shelf = shelf_of(alloc, Some(BOX), Some(5), &[])?;
-    assert_eq!(rt;
-        format(alloc, &name("a.bin")?, &mut shelf, &mut flash, &mut out),
-        Status::Done
+    same(
+        &rt,
+        &format(alloc, &name("a.bin")?, &mut shelf, &mut flash, &mut out),
+        &Status::Done,
     );
     let mut image = sink(alloc, &[])?;
-    assert_eq!(rt; boot(&mut flash, &mut image, &mut out), Status::Done);
-    assert_eq!(rt; image.bytes(), [7; 5].as_slice());
-    assert_eq!(rt;
-        out.bytes(),
-        b"blank 6\nformatted bytes 5\nboot bank 0 number 1 software 1.2 bytes 5\n".as_slice()
+    same(&rt, &boot(&mut flash, &mut image, &mut out), &Status::Done);
+    same(&rt, &image.bytes(), &[7; 5].as_slice());
+    same(
+        &rt,
+        &out.bytes(),
+        &b"blank 6\nformatted bytes 5\nboot bank 0 number 1 software 1.2 bytes 5\n".as_slice(),
     );
     Ok(())
 }
@@ -87,7 +90,7 @@ fn a_formatted_flash_gives_its_file_back(rt: HostRuntime) -> Result<(), Fail> {
 #[test]
 fn format_is_refused_in_order(rt: HostRuntime) -> Result<(), Fail> {
     let alloc = rt.alloc();
-    let rule = ArrayString::from("rule").ok().ok_or("rule")?;
+    let rule = ArrayString::from("rule").ok().expect(&rt, "rule");
     let no_box = Status::Absent(name("box.toml")?);
     let no_file = Status::Absent(name("a.bin")?);
     // box.toml, the length of the file, the calls of the shelf that fail, the blocks, the answer
@@ -106,8 +109,8 @@ fn format_is_refused_in_order(rt: HostRuntime) -> Result<(), Fail> {
         let mut flash = flash_with(alloc, &blank_flash(alloc, blocks)?)?;
         let mut out = sink(alloc, &[])?;
         let answer = format(alloc, &name("a.bin")?, &mut shelf, &mut flash, &mut out);
-        assert_eq!(rt; answer, status);
-        assert_eq!(rt; out.bytes().is_empty(), status != Status::Done);
+        same(&rt, &answer, &status);
+        same(&rt, &out.bytes().is_empty(), &(status != Status::Done));
     }
     Ok(())
 }
@@ -120,39 +123,59 @@ fn faults_are_told_apart(rt: HostRuntime) -> Result<(), Fail> {
     // what is blank is not sound, and what has no blocks is out of the limits
     let mut made = sink(alloc, &[])?;
     let mut out = sink(alloc, &[2])?;
-    assert_eq!(rt; boot(&mut flash, &mut made, &mut out), Status::Foreign);
+    same(
+        &rt,
+        &boot(&mut flash, &mut made, &mut out),
+        &Status::Foreign,
+    );
     let mut none = flash_with(alloc, &[])?;
-    assert_eq!(rt; boot(&mut none, &mut made, &mut out), Status::Geometry);
+    same(
+        &rt,
+        &boot(&mut none, &mut made, &mut out),
+        &Status::Geometry,
+    );
     // the third erase fails
     let planned: Result<(), NoMemory> = flash.fail_at(3, Tear::Front(0));
     assert!(rt; planned.is_ok());
     let file = name("a.bin")?;
-    assert_eq!(rt;
-        format(alloc, &file, &mut shelf, &mut flash, &mut out),
-        Status::FlashFault
+    same(
+        &rt,
+        &format(alloc, &file, &mut shelf, &mut flash, &mut out),
+        &Status::FlashFault,
     );
-    assert_eq!(rt; boot(&mut flash, &mut made, &mut out), Status::Foreign);
-    assert_eq!(rt;
-        format(alloc, &file, &mut shelf, &mut flash, &mut out),
-        Status::Done
+    same(
+        &rt,
+        &boot(&mut flash, &mut made, &mut out),
+        &Status::Foreign,
+    );
+    same(
+        &rt,
+        &format(alloc, &file, &mut shelf, &mut flash, &mut out),
+        &Status::Done,
     );
     // the line is not put, and the flash is formatted all the same
-    assert_eq!(rt;
-        format(alloc, &file, &mut shelf, &mut flash, &mut out),
-        Status::WriteFault
+    same(
+        &rt,
+        &format(alloc, &file, &mut shelf, &mut flash, &mut out),
+        &Status::WriteFault,
     );
     assert!(rt; made.bytes().is_empty());
-    assert_eq!(rt; boot(&mut flash, &mut made, &mut out), Status::Done);
-    assert_eq!(rt; made.bytes(), [7; 5].as_slice());
+    same(&rt, &boot(&mut flash, &mut made, &mut out), &Status::Done);
+    same(&rt, &made.bytes(), &[7; 5].as_slice());
     // the image is not made
     let mut failing = sink(alloc, &[1])?;
-    assert_eq!(rt;
-        boot(&mut flash, &mut failing, &mut out),
-        Status::WriteFault
+    same(
+        &rt,
+        &boot(&mut flash, &mut failing, &mut out),
+        &Status::WriteFault,
     );
-    assert_eq!(rt; blank(4, &mut failing, &mut out), Status::Done);
+    same(&rt, &blank(4, &mut failing, &mut out), &Status::Done);
     let mut second_fails = sink(alloc, &[2])?;
-    assert_eq!(rt; blank(4, &mut second_fails, &mut out), Status::WriteFault);
-    assert_eq!(rt; second_fails.bytes().len(), 4096);
+    same(
+        &rt,
+        &blank(4, &mut second_fails, &mut out),
+        &Status::WriteFault,
+    );
+    same(&rt, &second_fails.bytes().len(), &4096);
     Ok(())
 }

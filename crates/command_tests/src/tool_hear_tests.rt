@@ -1,5 +1,6 @@
 //! A section of the PID that is heard.
 
+use crate::check::same;
 use ssu_io::{MemSink, MemSource};
 use ssu_status::Status;
 use std::test::Fail;
@@ -20,8 +21,8 @@ fn a_section_of_the_pid_is_put(rt: HostRuntime) -> Result<(), Fail> {
     }
     let mut air = MemSource::new(bytes, 1000, Vec::new(alloc));
     let mut out = MemSink::new(alloc, Vec::new(alloc));
-    let pid = Pid::new(20).ok_or("a PID")?;
-    assert_eq!(rt; hear(alloc, pid, &mut air, &mut out), Status::Done);
-    assert_eq!(rt; out.bytes(), &TDT_PACKET[5..]);
+    let pid = Pid::new(20).expect(&rt, "a PID");
+    same(&rt, &hear(alloc, pid, &mut air, &mut out), &Status::Done);
+    same(&rt, &out.bytes(), &&TDT_PACKET[5..]);
     Ok(())
 }

@@ -1,5 +1,6 @@
 //! Carousels that the tests make, and what comes of them.
 
+use crate::check::same;
 use dsmcc_msg::{Ddb, DiiWriter, DsiWriter, write_ddb};
 use ssu_answer::{Chosen, Level};
 use ssu_compat::{Oui, Plain, SwId, write};
@@ -282,9 +283,9 @@ fn the_first_group_that_can_be_used_is_loaded(rt: HostRuntime) -> Result<(), Fai
     ];
     for (sections, status, line, made) in rows {
         let came = run_load(rt.alloc(), packets(rt.alloc(), sections)?, [&[], &[], &[]])?;
-        assert_eq!(rt; came.status, status);
-        assert_eq!(rt; came.out.as_slice(), line.as_bytes());
-        assert_eq!(rt; came.made.as_slice(), made);
+        same(&rt, &came.status, &status);
+        same(&rt, &came.out.as_slice(), &line.as_bytes());
+        same(&rt, &came.made.as_slice(), &made);
     }
     Ok(())
 }
@@ -299,7 +300,7 @@ fn no_byte_behind_the_verdict_is_taken(rt: HostRuntime) -> Result<(), Fail> {
     ];
     for (sections, left) in rows {
         let came = run_load(rt.alloc(), packets(rt.alloc(), sections)?, [&[], &[], &[]])?;
-        assert_eq!(rt; came.left, left);
+        same(&rt, &came.left, &left);
     }
     Ok(())
 }
@@ -316,8 +317,8 @@ fn faults_are_told_from_each_other(rt: HostRuntime) -> Result<(), Fail> {
     ];
     for (fails, status, made, out) in rows {
         let came = run_load(rt.alloc(), whole.clone()?, fails)?;
-        assert_eq!(rt; came.status, status);
-        assert_eq!(rt; (came.made.len(), came.out.len()), (made, out));
+        same(&rt, &came.status, &status);
+        same(&rt, &(came.made.len(), came.out.len()), &(made, out));
     }
     Ok(())
 }

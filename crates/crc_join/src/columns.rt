@@ -5,7 +5,7 @@ ghost use Rattle.ts_crc.specs.Crc.{after_bit};
 ghost use Rattle.crc_join.specs.Columns.{zero_bits, AreColumns};
 
 // x^26 + x^23 + x^22 + x^16 + x^12 + x^11 + x^10 + x^8 + x^7 + x^5 + x^4 + x^2 + x + 1
-const POLYNOMIAL: u32 = 0x04C1_1DB7;
+pub(crate) const POLYNOMIAL: u32 = 0x04C1_1DB7;
 
 /// The register after a bit 0.
 #[inline]

@@ -3,6 +3,7 @@
 ghost use Rattle.std.specs.Prelude.{◌≡◌, IfSome};
 ghost use Rattle.ts_crc.specs.Crc.{after_bytes};
 
+use crate::columns::POLYNOMIAL;
 use ts_crc::Register;
 
 /// What the register holds after the bytes. A new register is led there by four bytes first, and it is seen that it came
@@ -11,7 +12,7 @@ pub fn resumed(register: u32, bytes: &[u8]) -> Option<u32>
     ensures { IfSome result (λ after. after ≡ after_bytes register bytes.now) }
 {
     let mut now = Register::new();
-    now.push(&text_to(register));
+    now.push(&bytes_leading_to(register));
     if now.value() != register {
         return None;
     }
@@ -21,11 +22,11 @@ pub fn resumed(register: u32, bytes: &[u8]) -> Option<u32>
 
 /// Four bytes after which a new register holds this. A register that is odd took the polynomial with the last bit; so it is told
 /// from the last bit back to the first what it held before.
-fn text_to(register: u32) -> [u8; 4] {
+fn bytes_leading_to(register: u32) -> [u8; 4] {
     let mut before = register;
     for _ in 0..32 {
         before = if before % 2 == 1 {
-            (before ^ 0x04C1_1DB7) >> 1 | 0x8000_0000
+            (before ^ POLYNOMIAL) >> 1 | 0x8000_0000
         } else {
             before >> 1
         };

@@ -5,9 +5,9 @@ use Rattle.std.specs.Prelude.{Option, Result, Ok, Err, OnErr}
 use Rattle.ssu_io.specs.Bytes.{Gains, GainsPrefix}
 use Rattle.ssu_io.proofs.BytesLemmas.{Gains_join, GainsPrefix_join}
 use Rattle.flash_bank.specs.Find.{Finds}
-use Rattle.flash_bank.specs.Layout.{Geometry, bank_place}
-use Rattle.flash_bank.specs.Pairs.{part}
-use Rattle.flash_bank.specs.Sound.{BootOf}
+use Rattle.flash_layout.specs.Layout.{Geometry}
+use Rattle.flash_layout.specs.Pairs.{part}
+use Rattle.flash_bank.specs.Sound.{BootOf, boot_of}
 use Rattle.flash_bank.specs.declared.find.Current.{Current}
 
 take-plus : (l : List ℕ) (a b n : ℕ) → n ≡ a + b → take n l ≡ take a l ++ take b (drop a l)
@@ -55,11 +55,6 @@ pub on_err : {T E : Type 0} (r : Result T E) (P : Type 0) → P → OnErr r P
 on_err (Ok x) P p = tt
 on_err (Err e) P p = p
 
--- boot takes the record that is found, with the image that it says
-pub finds_boot : (g : Geometry) (c : List ℕ) (found : Current) → Finds g c found
-    → BootOf g c (record { head = found.head; image = part c (bank_place g found.head.bank) found.head.length })
-finds_boot g c found finds = record {
-  block = found.block;
-  current = finds.current;
-  is = (λ i. record { head = finds.head i; image = part c (bank_place g (finds.head i).bank) (finds.head i).length });
-}
+-- boot takes the record that is found, with its image
+pub finds_boot : (g : Geometry) (c : List ℕ) (found : Current) → Finds g c found → BootOf g c (boot_of g c found.head)
+finds_boot g c found finds = record { block = found.block; current = finds.current; is = ap (boot_of g c) finds.head }

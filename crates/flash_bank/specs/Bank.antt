@@ -1,12 +1,14 @@
 -- What is seen of an open bank, and what it asks of the flash that it is lent.
 use Rattle.std.specs.Prelude.{◌≡◌, ◌⊎◌, ℕ, ◌+◌, ◌-◌, Bool, true, false, List, length, slice_index}
 use Rattle.flash_dev.specs.Changes.{Changes, IsBlank, IsTornProgram}
-use Rattle.flash_bank.specs.Layout.{Geometry, bank_place, len_under, record_place}
+use Rattle.flash_layout.specs.Layout.{Geometry, area_place, journal_place, record_place}
+use Rattle.flash_layout.specs.Shape.{geometry}
+use Rattle.flash_bank.specs.Layout.{len_under}
 use Rattle.flash_bank.specs.Leaving.{KeepsBoot}
 use Rattle.flash_bank.specs.Record.{written}
 use Rattle.flash_bank.specs.Runs.{IsRaised}
-use Rattle.flash_bank.specs.Shape.{geometry}
 use Rattle.flash_bank.specs.Sound.{IsSound, IsCurrent, Commits, Keeps, KeepsBoth, boot_of, record_in}
+use Rattle.flash_bank.specs.Spare.{FirstCut}
 use Rattle.flash_bank.specs.declared.bank.Bank.{Bank}
 use Rattle.flash_bank.specs.declared.record.Record.{Record}
 
@@ -29,16 +31,24 @@ is_begun bank = bank.begun
 abbrev pub is_spent : Bank → Bool
 is_spent bank = bank.spent
 
--- the length of its banks
+-- the length of a bank
 abbrev pub len_of : Bank → ℕ
 len_of bank = len_under (geometry_of bank) (current_of bank)
 
--- where the spare record block begins, and the spare bank
+-- the area that the current record does not name
+abbrev pub spare_area : Bank → ℕ
+spare_area bank = 1 - (current_of bank).bank
+
+-- where the spare record block begins, and the spare bank, at the front of its area
 abbrev pub spare_record : Bank → ℕ
 spare_record bank = record_place (geometry_of bank) (1 - block_of bank)
 
 abbrev pub spare_bank : Bank → ℕ
-spare_bank bank = bank_place (geometry_of bank) (1 - (current_of bank).bank)
+spare_bank bank = area_place (geometry_of bank) (spare_area bank)
+
+-- in layout 2, where the spare journal begins
+abbrev pub spare_journal : Bank → ℕ
+spare_journal bank = journal_place (geometry_of bank) (spare_area bank)
 
 -- The bank fits these contents: they are sound and have its current record. Where it was begun, the spare
 -- record's place is erased.
@@ -56,11 +66,12 @@ pub record IsLent {F : Type 0} (tells : Type 0) (contents : F → List ℕ) (blo
   pub block_size : block_len flash ≡ (geometry_of bank).block_len
   pub fits : tells → Fits bank (contents flash)
 
--- What `begin` may leave of x: boot takes what it took, only the spare record block and the spare bank may differ, and no
--- byte is below what it was.
+-- What `begin` may leave of x: boot takes what it took, only the spare record block and the spare area may differ, no
+-- byte is below what it was, and in layout 2 the first block of the spare journal goes before all else of the area.
 pub record LeavesBegun (g : Geometry) (x y : List ℕ) : Type 0 where
   pub keeps : KeepsBoot g x y
   pub raised : (k : ℕ) → IsRaised k (slice_index x k) (slice_index y k)
+  pub first : (r : ℕ) → IsCurrent g x r → (record_in g x r).layout ≡ 2 → FirstCut g (1 - (record_in g x r).bank) x y
 
 -- What `fill` may leave of x: boot takes what it took, also before, and only the range may differ, where no byte
 -- is below the one to be written.
@@ -68,7 +79,7 @@ pub record LeavesFilled (bank : Bank) (at : ℕ) (bytes x y : List ℕ) : Type 0
   pub keeps : KeepsBoth (geometry_of bank) x y
   pub changes : Changes (spare_bank bank + at) (length bytes) (IsTornProgram bytes) x y
 
--- What `commit` may leave of x: boot takes what it took, or the new record with the front of its bank as it stands in x;
+-- What `commit` may leave of x: boot takes what it took, or the new record with its image as it stands in x;
 -- and only the spare record's place may differ, where no byte is below the one to be written.
 pub record LeavesCommitted (bank : Bank) (new : Record) (x y : List ℕ) : Type 0 where
   pub boot : Keeps (geometry_of bank) x y ⊎ Commits (geometry_of bank) (boot_of (geometry_of bank) x new) x y

@@ -1,57 +1,38 @@
--- Where records and banks stand. Blocks 0 and 1 hold the records of banks 0 and 1 in their first 64 bytes.
--- Behind them stand both banks, each of half of the other blocks; an odd last block is unused.
-use Rattle.std.specs.Prelude.{◌≡◌, ℕ, ◌+◌, ◌-◌, ◌*◌, ◌/◌, ◌%◌, ◌≤◌, List}
-use Rattle.flash_dev.specs.declared.device.Flash.{Ghosts as FlashGhosts}
-use Rattle.flash_bank.specs.Pairs.{part}
+-- Which records are valid, and how long a bank is.
+use Rattle.std.specs.Prelude.{◌≡◌, ◌⊎◌, ℕ, ◌<◌, ◌≤◌, List}
+use Rattle.flash_layout.specs.Layout.{Geometry, HasJournals, area_len, bank_len, record_bytes, short_len}
 use Rattle.flash_bank.specs.Record.{IsValid}
 use Rattle.flash_bank.specs.declared.record.Record.{Record}
 
--- the number of blocks, and the length of a block in bytes
-pub record Geometry : Type 0 where
-  pub blocks : ℕ
-  pub block_len : ℕ
-
--- the number and the length of the blocks of a flash
-abbrev pub blocks_of : {F : Type 0} → FlashGhosts F → F → Geometry
-blocks_of f flash = record { blocks = f.block_count flash; block_len = f.block_len flash }
-
--- block length and number of blocks are such that a flash can have this layout
-pub record IsInLimits (g : Geometry) : Type 0 where
-  pub page : g.block_len % 256 ≡ 0
-  pub least_len : 256 ≤ g.block_len
-  pub most_len : g.block_len ≤ 65536
-  pub least_blocks : 4 ≤ g.blocks
-  pub most_blocks : g.blocks ≤ 65536
-  pub most_bytes : g.blocks * g.block_len ≤ 268435456
-
--- the number of blocks of a bank, and its bytes
-abbrev pub bank_blocks : Geometry → ℕ
-bank_blocks g = (g.blocks - 2) / 2
-
-abbrev pub bank_len : Geometry → ℕ
-bank_len g = bank_blocks g * g.block_len
-
--- the length of a bank where this is the current record: in this layout it is the same for each
+-- the length of a bank where this is the current record
 abbrev pub len_under : Geometry → Record → ℕ
-len_under g current = bank_len g
+len_under g current = bank_len g current.layout
 
--- where record block r begins, and bank k
-abbrev pub record_place : Geometry → ℕ → ℕ
-record_place g r = r * g.block_len
+-- The image of a record has its place: its layout exists, it names one of the two areas, and it is not longer than a bank.
+pub record IsPlaced (g : Geometry) (head : Record) : Type 0 where
+  pub least_layout : 1 ≤ head.layout
+  pub most_layout : head.layout ≤ 2
+  pub room : head.layout ≡ 2 → HasJournals g
+  pub area : head.bank < 2
+  pub fits : head.length ≤ len_under g head
 
-abbrev pub bank_place : Geometry → ℕ → ℕ
-bank_place g k = (2 + k * bank_blocks g) * g.block_len
-
--- the 64 bytes of record block r
-abbrev pub record_bytes : Geometry → List ℕ → ℕ → List ℕ
-record_bytes g contents r = part contents (record_place g r) 64
-
--- The magic `SSU1`, the bank of the record block and a length of at most a bank's may stand together.
-pub record Allows (block most magic bank len : ℕ) : Type 0 where
+-- The magic `SSU1`, the bank of the record block and a length of at most an area's may stand together.
+pub record AllowsOne (g : Geometry) (block magic bank len : ℕ) : Type 0 where
   pub magic_is : magic ≡ 0x53535531
   pub bank_is : bank ≡ block
-  pub fits : len ≤ most
+  pub fits : len ≤ area_len g
+
+-- Where layout 2 exists the magic `SSU2`, either bank and a length of at most a bank's before a journal may stand together.
+pub record AllowsTwo (g : Geometry) (magic bank len : ℕ) : Type 0 where
+  pub room : HasJournals g
+  pub magic_is : magic ≡ 0x53535532
+  pub bank_is : bank < 2
+  pub fits : len ≤ short_len g
+
+-- one of both
+abbrev pub Allows : Geometry → ℕ → ℕ → ℕ → ℕ → Type 0
+Allows g block magic bank len = AllowsOne g block magic bank len ⊎ AllowsTwo g magic bank len
 
 -- block r holds a valid record
 abbrev pub HoldsRecord : Geometry → List ℕ → ℕ → Type 0
-HoldsRecord g contents r = IsValid (Allows r (bank_len g)) (record_bytes g contents r)
+HoldsRecord g contents r = IsValid (Allows g r) (record_bytes g contents r)

@@ -2,12 +2,14 @@ pub mod Bank
 pub mod Errors
 pub mod Find
 pub mod Format
+pub mod Journal
+pub mod Laid
 pub mod Layout
 pub mod Leaving
-pub mod Pairs
+pub mod Migrate
 pub mod Record
 pub mod Runs
+pub mod Scan
 pub mod Seen
-pub mod Shape
 pub mod Sound
 pub mod Spare

@@ -33,3 +33,11 @@ pub record OnlyReads {F : Type 0} (tells : Type 0) (contents : F → List ℕ) (
 -- a place outside the n bytes from `at` on
 abbrev pub IsOutside : ℕ → ℕ → ℕ → Type 0
 IsOutside at n k = (k < at) ⊎ (at + n ≤ k)
+
+-- each byte is one
+abbrev pub AreBytes : List ℕ → Type 0
+AreBytes contents = (k : ℕ) → slice_index contents k ≤ 255
+
+-- the n bytes from `at` on are the same
+abbrev pub SameAt : ℕ → ℕ → List ℕ → List ℕ → Type 0
+SameAt at n x y = (i : ℕ) → i < n → slice_index y (at + i) ≡ slice_index x (at + i)

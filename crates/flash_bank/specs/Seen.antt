@@ -2,7 +2,7 @@
 use Rattle.std.specs.Prelude.{◌≡◌, ℕ, List}
 use Rattle.flash_dev.specs.Moments.{LeavesOnly}
 use Rattle.flash_dev.specs.declared.device.Flash.{Ghosts as FlashGhosts}
-use Rattle.flash_bank.specs.Layout.{Geometry, blocks_of}
+use Rattle.flash_layout.specs.Layout.{Geometry, blocks_of}
 use Rattle.flash_bank.specs.Runs.{OnlyReads}
 
 -- Whether the flash tells its contents, its blocks, the contents, and how often it failed.

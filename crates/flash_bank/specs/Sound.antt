@@ -1,8 +1,11 @@
 -- Sound contents, and what boot takes of them.
-use Rattle.std.specs.Prelude.{◌≡◌, ◌≢◌, ◌⊎◌, ℕ, ◌-◌, ◌*◌, ◌<◌, List, length}
-use Rattle.flash_bank.specs.Pairs.{part, NoneBelow}
+use Rattle.std.specs.Prelude.{◌≡◌, ◌≢◌, ◌⊎◌, ℕ, ◌+◌, ◌-◌, ◌*◌, ◌<◌, ◌≤◌, ◌==◌, if◌then◌else◌, List, length, take, drop}
+use Rattle.flash_layout.specs.Journal.{IsHeader, IsSettled, header_number}
+use Rattle.flash_layout.specs.Layout.{Geometry, area_bytes, journal_bytes, mark_count, record_bytes, short_len, slots_at}
+use Rattle.flash_layout.specs.Pairs.{NoneBelow}
+use Rattle.flash_layout.specs.Slots.{laid}
+use Rattle.flash_bank.specs.Layout.{HoldsRecord}
 use Rattle.flash_bank.specs.Record.{record_of}
-use Rattle.flash_bank.specs.Layout.{Geometry, bank_place, record_bytes, HoldsRecord}
 use Rattle.flash_bank.specs.declared.record.Record.{Record}
 
 -- the record in block r, and its number
@@ -12,13 +15,33 @@ record_in g contents r = record_of (record_bytes g contents r)
 abbrev pub number_in : Geometry → List ℕ → ℕ → ℕ
 number_in g contents r = (record_in g contents r).number
 
--- No pair of both records is below 255, at least one record is valid, and two valid ones have different numbers.
+-- block r holds a valid record of layout 1, or of layout 2
+abbrev pub HoldsOne : Geometry → List ℕ → ℕ → Type 0
+HoldsOne g contents r = HoldsRecord g contents r × ((record_in g contents r).layout ≡ 1)
+
+abbrev pub HoldsTwo : Geometry → List ℕ → ℕ → Type 0
+HoldsTwo g contents r = HoldsRecord g contents r × ((record_in g contents r).layout ≡ 2)
+
+-- What sound contents with a record of layout 2 say of their journals. No pair of them is below 255. The number of a valid header is at
+-- most that of each valid record plus 1, and at most that of one that names its area. Two valid records of layout 2 name different
+-- areas, and the image of a valid record of layout 1 ends before the journal of its area.
+pub record JournalsFit (g : Geometry) (contents : List ℕ) : Type 0 where
+  pub settled : (k : ℕ) → k < 2 → IsSettled (mark_count g) (slots_at g) (journal_bytes g contents k)
+  pub next : (k r : ℕ) → k < 2 → r < 2 → IsHeader (journal_bytes g contents k) → HoldsRecord g contents r
+      → header_number (journal_bytes g contents k) ≤ number_in g contents r + 1
+  pub named : (k r : ℕ) → k < 2 → r < 2 → IsHeader (journal_bytes g contents k) → HoldsRecord g contents r
+      → (record_in g contents r).bank ≡ k → header_number (journal_bytes g contents k) ≤ number_in g contents r
+  pub apart : HoldsTwo g contents 0 → HoldsTwo g contents 1 → (record_in g contents 0).bank ≢ (record_in g contents 1).bank
+  pub short : (r : ℕ) → r < 2 → HoldsOne g contents r → (record_in g contents r).length ≤ short_len g
+
+-- No pair of both records is below 255, at least one record is valid, and two valid ones have different numbers. With a record of
+-- layout 2 the journals fit.
 pub record IsSound (g : Geometry) (contents : List ℕ) : Type 0 where
   pub size : length contents ≡ g.blocks * g.block_len
-  pub first : NoneBelow (record_bytes g contents 0) 32
-  pub second : NoneBelow (record_bytes g contents 1) 32
+  pub settled : (r : ℕ) → r < 2 → NoneBelow (record_bytes g contents r) 32
   pub some : HoldsRecord g contents 0 ⊎ HoldsRecord g contents 1
   pub distinct : HoldsRecord g contents 0 → HoldsRecord g contents 1 → number_in g contents 0 ≢ number_in g contents 1
+  pub journals : (r : ℕ) → r < 2 → HoldsTwo g contents r → JournalsFit g contents
 
 -- block r holds the current record: the valid one with the greater number
 pub record IsCurrent (g : Geometry) (contents : List ℕ) (r : ℕ) : Type 0 where
@@ -31,9 +54,14 @@ pub record Boot : Type 0 where
   pub head : Record
   pub image : List ℕ
 
--- the image of a record: the first bytes of its bank
+-- The image of a record, out of the bytes of its area: the first of them, in layout 2 those of the bank with the bytes of each valid
+-- slot of the journal laid over it.
+abbrev pub image_in : Geometry → List ℕ → Record → List ℕ
+image_in g area head = take head.length (
+    if head.layout == 2 then laid (short_len g) (drop (short_len g + slots_at g) area) (take (short_len g) area) 16 else area)
+
 abbrev pub image_of : Geometry → List ℕ → Record → List ℕ
-image_of g contents head = part contents (bank_place g head.bank) head.length
+image_of g contents head = image_in g (area_bytes g contents head.bank) head
 
 -- a record with its image, and the one in block r
 abbrev pub boot_of : Geometry → List ℕ → Record → Boot

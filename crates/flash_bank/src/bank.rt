@@ -4,16 +4,18 @@
 //! valid record is left over a bank that changes. `fill` writes the image where no record points to. `commit`
 //! writes the new record last, with one call: until it is whole it is not valid, and then it is current.
 ghost use Rattle.std.specs.Prelude.{◌≡◌, ◌⊎◌, ◌+◌, ◌-◌, ◌*◌, ◌^◌, ◌<◌, ◌≤◌, ◌↔◌, true, false, length, IfOk, IsErrOf, OnOk, OnErr};
-ghost use Rattle.flash_bank.specs.Layout.{IsInLimits, bank_len, blocks_of};
-ghost use Rattle.flash_bank.specs.Shape.{geometry};
+ghost use Rattle.flash_layout.specs.Layout.{HasJournals, IsInLimits, bank_len, blocks_of};
+ghost use Rattle.flash_layout.specs.Shape.{geometry};
 
+mod journal;
+
+use crate::encoding::encoded;
 use crate::fault::{BankFault, FlashFault};
 use crate::find::{Current, find_current};
-use crate::layout::{Shape, shape_of};
-use crate::pairs::encoded;
 use crate::record::Record;
 use crate::runs::{erase_spare, program_pieces};
 use flash_dev::Flash;
+use flash_layout::{Shape, shape_of};
 use ssu_compat::SwId;
 
 /// The banks of a flash, as they were found and as the calls of this value change them. After a fault of the
@@ -27,8 +29,11 @@ pub struct Bank {
     spent: bool,
     ghost limits: { IsInLimits (geometry shape) },
     ghost block_is: { block < 2 },
-    ghost bank_is: { current.bank ≡ block },
-    ghost length_fits: { current.length ≤ bank_len (geometry shape) },
+    ghost bank_is: { current.bank < 2 },
+    ghost least_layout: { 1 ≤ current.layout },
+    ghost most_layout: { current.layout ≤ 2 },
+    ghost room: { current.layout ≡ 2 → HasJournals (geometry shape) },
+    ghost length_fits: { current.length ≤ bank_len (geometry shape) current.layout },
     ghost next_fits: { begun ≡ true → current.number < 4294967295 },
 }
 
@@ -36,6 +41,8 @@ impl Bank {
     ghost use Rattle.flash_dev.specs.Changes.{Changes, Holds, IsBlank, IsProgrammed};
     ghost use Rattle.flash_dev.specs.Moments.{LeavesOnly};
     ghost use Rattle.flash_bank.specs.Bank.{IsLent, LeavesBegun, LeavesCommitted, LeavesFilled, block_of, current_of};
+    ghost use Rattle.flash_layout.specs.Layout.{area_len};
+    ghost use Rattle.flash_bank.specs.Layout.{IsPlaced};
     ghost use Rattle.flash_bank.specs.Bank.{geometry_of, is_begun, is_spent, len_of, spare_bank, spare_record};
     ghost use Rattle.flash_bank.specs.Record.{next_record};
     ghost use Rattle.flash_bank.specs.Runs.{OnlyReads};
@@ -91,7 +98,7 @@ impl Bank {
     /// The current record.
     pub fn current(&self) -> Record
         ensures value { result ≡ current_of self.now }
-        ensures bank { result.bank ≡ block_of self.now }
+        ensures bank { result.bank < 2 }
         ensures fits { result.length ≤ len_of self.now }
     {
         self.current
@@ -102,11 +109,11 @@ impl Bank {
         ensures value { result ≡ len_of self.now }
         ensures limits { IsInLimits (geometry_of self.now) }
     {
-        self.shape.bank_len()
+        self.shape.bank_len(self.current.layout)
     }
 
-    /// Erases the spare record block and then the spare bank. The current record is not the one with the greatest
-    /// number. `FlashFault` comes only where the flash failed and its count of faults rose: the spare block and bank
+    /// Erases the spare record block and then the spare area, in layout 2 its journal before its bank. The current record is not
+    /// the one with the greatest number. `FlashFault` comes only where the flash failed and its count of faults rose: the spare block and area
     /// may be torn then, and the bank is spent.
     pub fn begin<F: Flash>(&mut self, flash: &mut F) -> Result<(), FlashFault>
         requires lent { IsLent F.tells F.contents F.block_count F.block_len self.old flash.old }
@@ -115,8 +122,8 @@ impl Bank {
         ensures begun { OnOk result (is_begun self.new ≡ true) }
         ensures erased_record { F.tells → OnOk result
             (IsBlank (F.contents flash.new) (spare_record self.old) (geometry_of self.old).block_len) }
-        ensures erased_bank { F.tells → OnOk result
-            (IsBlank (F.contents flash.new) (spare_bank self.old) (len_of self.old)) }
+        ensures erased_area { F.tells → OnOk result
+            (IsBlank (F.contents flash.new) (spare_bank self.old) (area_len (geometry_of self.old))) }
         ensures held { F.tells → LeavesBegun (geometry_of self.old) (F.contents flash.old) (F.contents flash.new) }
         ensures left { F.tells → LeavesOnly F.moment F.left_since flash.old flash.new
             (LeavesBegun (geometry_of self.old) (F.contents flash.old)) }
@@ -130,7 +137,13 @@ impl Bank {
         ensures cause { HasCause (F.faults flash.old) (F.faults flash.new) result }
     {
         self.spent = true;
-        erase_spare(flash, self.shape, 1 - self.block, 1 - self.current.bank)?;
+        erase_spare(
+            flash,
+            self.shape,
+            self.current.layout,
+            1 - self.block,
+            1 - self.current.bank,
+        )?;
         self.spent = false;
         self.begun = true;
         Ok(())
@@ -161,7 +174,7 @@ impl Bank {
         ensures cause { HasCause (F.faults flash.old) (F.faults flash.new) result }
     {
         self.spent = true;
-        let place = self.shape.bank_place(1 - self.current.bank);
+        let place = self.shape.area_place(1 - self.current.bank);
         program_pieces(flash, place + at, bytes)?;
         self.spent = false;
         Ok(())
@@ -189,7 +202,7 @@ impl Bank {
         ensures cause { HasCause (F.faults flash.old) (F.faults flash.new) result }
     {
         self.spent = true;
-        let place = self.shape.bank_place(1 - self.current.bank);
+        let place = self.shape.area_place(1 - self.current.bank);
         flash.read(place + at, buf)?;
         self.spent = false;
         Ok(())
@@ -233,6 +246,7 @@ impl Bank {
         self.spent = true;
         let block = 1 - self.block;
         let next = Record {
+            layout: self.current.layout,
             number: self.current.number + 1,
             bank: 1 - self.current.bank,
             length,
@@ -250,8 +264,7 @@ impl Bank {
     fn of(shape: Shape, current: Current) -> Bank
         requires limits { IsInLimits (geometry shape) }
         requires block { current.block < 2 }
-        requires bank { current.head.bank ≡ current.block }
-        requires fits { current.head.length ≤ bank_len (geometry shape) }
+        requires placed { IsPlaced (geometry shape) current.head }
         ensures geometry { geometry_of result ≡ geometry shape }
         ensures current { current_of result ≡ current.head }
         ensures block { block_of result ≡ current.block }

@@ -1,17 +1,21 @@
 //! The image that boot takes.
-ghost use Rattle.std.specs.Prelude.{◌≡◌, ◌⊎◌, ◌↔◌, ◌+◌, ◌*◌, ◌^◌, ◌<◌, ◌≤◌, List, ℕ, length, IfOk, IsErrOf, OnErr, OnOk};
-ghost use Rattle.flash_bank.specs.Layout.{IsInLimits, bank_len, bank_place, blocks_of};
-ghost use Rattle.flash_bank.specs.Pairs.{part};
+ghost use Rattle.std.specs.Prelude.{◌≡◌, ◌⊎◌, ◌↔◌, ◌+◌, ◌*◌, ◌^◌, ◌<◌, ◌≤◌, List, ℕ, length, IfOk, IsErrOf, IsTrue, OnErr, OnOk};
+ghost use Rattle.flash_layout.specs.Layout.{HasJournals, IsInLimits, area_place, blocks_of, journal_place, short_len, slots_at};
+ghost use Rattle.flash_layout.specs.Pairs.{part};
+ghost use Rattle.flash_layout.specs.Shape.{geometry};
+ghost use Rattle.flash_bank.specs.Laid.{LiesWithin};
+ghost use Rattle.flash_bank.specs.Layout.{IsPlaced};
 ghost use Rattle.flash_bank.specs.Runs.{OnlyReads};
-ghost use Rattle.flash_bank.specs.Sound.{Boot, BootOf, IsSound};
+ghost use Rattle.flash_bank.specs.Sound.{Boot, BootOf, IsSound, image_of};
 ghost use Rattle.ssu_io.specs.Bytes.{Gains, GainsPrefix};
 ghost use Rattle.ssu_io.specs.Faults.{Rose};
 
 use crate::fault::BootFault;
 use crate::find::find_current;
-use crate::layout::shape_of;
+use crate::laid_image::{LaidBank, put_laid};
 use crate::record::Record;
 use flash_dev::Flash;
+use flash_layout::{Shape, shape_of};
 use ssu_io::Sink;
 
 /// The length of a piece of the image.
@@ -61,10 +65,64 @@ pub fn boot<F: Flash, W: Sink>(flash: &mut F, sink: &mut W) -> Result<Record, Bo
         Err(_) => Err(BootFault::Flash),
         Ok(None) => Err(BootFault::Foreign),
         Ok(Some(current)) => {
-            let place = shape.bank_place(current.head.bank);
-            put_image(flash, sink, place, current.head.length)?;
+            put_taken(flash, sink, shape, current.head)?;
             Ok(current.head)
         }
+    }
+}
+
+/// Puts the image of a record into the sink.
+fn put_taken<F: Flash, W: Sink>(
+    flash: &mut F,
+    sink: &mut W,
+    shape: Shape,
+    head: Record,
+) -> Result<(), BootFault>
+    requires limits { IsInLimits (geometry shape) }
+    requires placed { IsPlaced (geometry shape) head }
+    requires blocks { shape.blocks ≡ F.block_count flash.old }
+    requires block_size { shape.block_size ≡ F.block_len flash.old }
+    requires whole { F.tells → length (F.contents flash.old) ≡ shape.blocks * shape.block_size }
+    ensures whole { F.tells → OnOk result (Gains (W.contents sink.old) (W.contents sink.new) (image_of (geometry shape) (F.contents flash.old) head)) }
+    ensures prefix { F.tells → OnErr result (GainsPrefix (W.contents sink.old) (W.contents sink.new)
+        (image_of (geometry shape) (F.contents flash.old) head)) }
+    ensures fault { IsErrOf result BootFault.Flash → Rose (F.faults flash.old) (F.faults flash.new) }
+    ensures write { IsErrOf result BootFault.Write → Rose (W.faults sink.old) (W.faults sink.new) }
+    ensures no_geometry { IsErrOf result BootFault.Geometry → ⊥ }
+    ensures no_foreign { IsErrOf result BootFault.Foreign → ⊥ }
+    ensures reads { OnlyReads F.tells F.contents F.block_count F.block_len F.moment F.left_since flash.old flash.new }
+    ensures faults { F.faults flash.old ≤ F.faults flash.new }
+    ensures sink_faults { W.faults sink.old ≤ W.faults sink.new }
+{
+    let two = is_laid(head);
+    if two {
+        put_laid(flash, sink, laid_bank(shape, head.bank), head.length)
+    } else {
+        put_image(flash, sink, shape.area_place(head.bank), head.length)
+    }
+}
+
+/// Slots are laid over the image of the record.
+fn is_laid(head: Record) -> bool
+    ensures { IsTrue result ↔ head.layout ≡ 2 }
+{
+    head.layout == 2
+}
+
+/// Where the bank of an area stands, with its slots.
+fn laid_bank(shape: Shape, area: u8) -> LaidBank
+    requires limits { IsInLimits (geometry shape) }
+    requires room { HasJournals (geometry shape) }
+    requires area { area < 2 }
+    ensures place { result.place ≡ area_place (geometry shape) area }
+    ensures len { result.len ≡ short_len (geometry shape) }
+    ensures slots { result.slots ≡ journal_place (geometry shape) area + slots_at (geometry shape) }
+    ensures within { LiesWithin result (shape.blocks * shape.block_size) }
+{
+    LaidBank {
+        place: shape.area_place(area),
+        len: shape.short_len(),
+        slots: shape.journal_place(area) + shape.slots_at(),
     }
 }
 
@@ -148,7 +206,7 @@ fn put_piece<F: Flash, W: Sink>(
     }
 }
 
-fn put_bytes<W: Sink>(sink: &mut W, bytes: &[u8]) -> Result<(), BootFault>
+pub(crate) fn put_bytes<W: Sink>(sink: &mut W, bytes: &[u8]) -> Result<(), BootFault>
     ensures whole { OnOk result (Gains (W.contents sink.old) (W.contents sink.new) bytes.now) }
     ensures prefix { OnErr result (GainsPrefix (W.contents sink.old) (W.contents sink.new) bytes.now) }
     ensures write { OnErr result (IsErrOf result BootFault.Write × Rose (W.faults sink.old) (W.faults sink.new)) }

@@ -2,14 +2,14 @@
 ghost use Rattle.std.specs.Prelude.{◌≡◌, ◌⊎◌, ◌+◌, ◌*◌, ◌%◌, ◌^◌, ◌<◌, ◌≤◌, length, OnOk};
 ghost use Rattle.flash_dev.specs.Changes.{Changes, IsBlank, IsErased, IsProgrammed, IsTornProgram};
 ghost use Rattle.flash_dev.specs.Moments.{LeavesOnly};
-ghost use Rattle.flash_bank.specs.Layout.{IsInLimits};
+ghost use Rattle.flash_layout.specs.Layout.{HasJournals, IsInLimits, journal_len, journal_place};
+ghost use Rattle.flash_layout.specs.Shape.{geometry};
 ghost use Rattle.flash_bank.specs.Runs.{CutsInPage, IsRaised};
-ghost use Rattle.flash_bank.specs.Shape.{geometry};
-ghost use Rattle.flash_bank.specs.Spare.{CutsSpare, ErasesThen};
+ghost use Rattle.flash_bank.specs.Spare.{Cleared, CutsJournal, CutsSpare};
 ghost use Rattle.ssu_io.specs.Faults.{HasCause};
 
-use crate::layout::Shape;
 use flash_dev::Flash;
+use flash_layout::Shape;
 use ssu_io::Failed;
 
 /// Erases so many blocks from the first one on, in ascending order.
@@ -75,26 +75,105 @@ fn piece_len(place: usize, left: usize) -> usize
     left.min(256 - place % 256)
 }
 
-/// Erases the spare record block and then the spare bank.
+/// Erases the blocks of the journal of an area, the first one first.
+pub(crate) fn erase_journal<F: Flash>(flash: &mut F, shape: Shape, area: u8) -> Result<(), Failed>
+    requires limits { IsInLimits (geometry shape) }
+    requires room { HasJournals (geometry shape) }
+    requires area { area < 2 }
+    requires blocks { F.block_count flash.old ≡ shape.blocks }
+    requires block_size { F.block_len flash.old ≡ shape.block_size }
+    ensures done { F.tells → OnOk result (Changes (journal_place (geometry shape) area) (journal_len (geometry shape))
+        IsErased (F.contents flash.old) (F.contents flash.new)) }
+    ensures held { F.tells → CutsJournal (geometry shape) area (F.contents flash.old) (F.contents flash.new) }
+    ensures left { F.tells → LeavesOnly F.moment F.left_since flash.old flash.new (CutsJournal (geometry shape) area (F.contents flash.old)) }
+    ensures blocks { F.block_count flash.new ≡ F.block_count flash.old }
+    ensures block_size { F.block_len flash.new ≡ F.block_len flash.old }
+    ensures cause { HasCause (F.faults flash.old) (F.faults flash.new) result }
+{
+    let first = shape.journal_block(area);
+    let rest = shape.journal_blocks() - 1;
+    flash.erase(first)?;
+    erase_blocks(flash, first + 1, rest)
+}
+
+/// Erases the spare record block, and then the spare area: in layout 2 its journal before its bank.
 pub(crate) fn erase_spare<F: Flash>(
     flash: &mut F,
     shape: Shape,
+    layout: u8,
     block: u32,
-    bank: u8,
+    area: u8,
 ) -> Result<(), Failed>
     requires limits { IsInLimits (geometry shape) }
+    requires room { layout ≡ 2 → HasJournals (geometry shape) }
     requires block { block < 2 }
-    requires bank { bank < 2 }
+    requires area { area < 2 }
     requires blocks { F.block_count flash.old ≡ shape.blocks }
     requires block_size { F.block_len flash.old ≡ shape.block_size }
-    ensures done { F.tells → OnOk result (ErasesThen (geometry shape) block bank IsErased (F.contents flash.old) (F.contents flash.new)) }
-    ensures held { F.tells → CutsSpare (geometry shape) block bank (F.contents flash.old) (F.contents flash.new) }
+    ensures done { F.tells → OnOk result (Cleared (geometry shape) layout block area (F.contents flash.old) (F.contents flash.new)) }
+    ensures held { F.tells → CutsSpare (geometry shape) layout block area (F.contents flash.old) (F.contents flash.new) }
     ensures left { F.tells → LeavesOnly F.moment F.left_since flash.old flash.new
-        (CutsSpare (geometry shape) block bank (F.contents flash.old)) }
+        (CutsSpare (geometry shape) layout block area (F.contents flash.old)) }
+    ensures blocks { F.block_count flash.new ≡ F.block_count flash.old }
+    ensures block_size { F.block_len flash.new ≡ F.block_len flash.old }
+    ensures cause { HasCause (F.faults flash.old) (F.faults flash.new) result }
+{
+    if layout == 2 {
+        erase_spare_two(flash, shape, layout, block, area)
+    } else {
+        erase_spare_one(flash, shape, layout, block, area)
+    }
+}
+
+fn erase_spare_one<F: Flash>(
+    flash: &mut F,
+    shape: Shape,
+    layout: u8,
+    block: u32,
+    area: u8,
+) -> Result<(), Failed>
+    requires limits { IsInLimits (geometry shape) }
+    requires one { layout ≡ 2 → ⊥ }
+    requires block { block < 2 }
+    requires area { area < 2 }
+    requires blocks { F.block_count flash.old ≡ shape.blocks }
+    requires block_size { F.block_len flash.old ≡ shape.block_size }
+    ensures done { F.tells → OnOk result (Cleared (geometry shape) layout block area (F.contents flash.old) (F.contents flash.new)) }
+    ensures held { F.tells → CutsSpare (geometry shape) layout block area (F.contents flash.old) (F.contents flash.new) }
+    ensures left { F.tells → LeavesOnly F.moment F.left_since flash.old flash.new
+        (CutsSpare (geometry shape) layout block area (F.contents flash.old)) }
     ensures blocks { F.block_count flash.new ≡ F.block_count flash.old }
     ensures block_size { F.block_len flash.new ≡ F.block_len flash.old }
     ensures cause { HasCause (F.faults flash.old) (F.faults flash.new) result }
 {
     flash.erase(block)?;
-    erase_blocks(flash, shape.bank_block(bank), shape.bank_blocks())
+    erase_blocks(flash, shape.area_block(area), shape.area_blocks())
+}
+
+fn erase_spare_two<F: Flash>(
+    flash: &mut F,
+    shape: Shape,
+    layout: u8,
+    block: u32,
+    area: u8,
+) -> Result<(), Failed>
+    requires limits { IsInLimits (geometry shape) }
+    requires room { HasJournals (geometry shape) }
+    requires block { block < 2 }
+    requires area { area < 2 }
+    requires blocks { F.block_count flash.old ≡ shape.blocks }
+    requires block_size { F.block_len flash.old ≡ shape.block_size }
+    ensures done { F.tells → OnOk result (Cleared (geometry shape) layout block area (F.contents flash.old) (F.contents flash.new)) }
+    ensures held { F.tells → CutsSpare (geometry shape) layout block area (F.contents flash.old) (F.contents flash.new) }
+    ensures left { F.tells → LeavesOnly F.moment F.left_since flash.old flash.new
+        (CutsSpare (geometry shape) layout block area (F.contents flash.old)) }
+    ensures blocks { F.block_count flash.new ≡ F.block_count flash.old }
+    ensures block_size { F.block_len flash.new ≡ F.block_len flash.old }
+    ensures cause { HasCause (F.faults flash.old) (F.faults flash.new) result }
+{
+    let first = shape.area_block(area);
+    let count = shape.area_blocks() - shape.journal_blocks();
+    flash.erase(block)?;
+    erase_journal(flash, shape, area)?;
+    erase_blocks(flash, first, count)
 }

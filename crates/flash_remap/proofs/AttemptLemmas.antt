@@ -12,6 +12,7 @@ use Rattle.flash_remap.specs.Replaced.{Anything, IsBlankFrom, IsFilled, IsReplac
 use Rattle.flash_remap.specs.declared.change.Change.{Change}
 use Rattle.flash_remap.specs.declared.change.Change.TheVariants.{Erase, Program}
 use Rattle.flash_remap.specs.declared.entry.Entry.{Entry}
+use Rattle.flash_remap.proofs.AddedLemmas.{adds_entry, adds_joined, adds_none, adds_torn}
 use Rattle.flash_remap.proofs.EntryLemmas.{entry_of-written, torn_entry}
 use Rattle.flash_remap.proofs.MapLemmas.{above_last-more, last_for-more}
 use Rattle.flash_remap.proofs.NextLemmas.{next_used}
@@ -64,6 +65,7 @@ module _ (g : Geometry) (x y : List ℕ) (j slot b p : ℕ) (change : Change) (s
         others = λ other not. ap (λ (es : List Entry). place_among g es other) entries;
         this = inl (ap (λ (es : List Entry). place_among g es b) entries);
         below = omega (arith, next, below);
+        adds = adds_torn g b x y slot slot_in blank slots_same none;
       }
 
   module _ (e : Entry) (holds : entry_in (slot_bytes g y slot) ≡ Some e) (for_block : e.block ≡ b) (is_spare : e.spare ≡ j) (filled : IsFilled g change p x (spare_block g j) y) where
@@ -94,6 +96,7 @@ module _ (g : Geometry) (x y : List ℕ) (j slot b p : ℕ) (change : Change) (s
           others = λ other not. at other ∙ ⊎_elim (λ yes. absurd (not (sym (eqb-true _ _ yes) ∙ for_block))) (λ no. cond-false (e.block == other) _ _ no) (cases_Bool (e.block == other));
           this = inr tried_done;
           below = omega (arith, next, is_spare);
+          adds = adds_entry g b x y slot slot_in blank slots_same e for_block entries;
         }
 
 -- the steps of an attempt
@@ -173,7 +176,7 @@ module _ (g : Geometry) (x : List ℕ) (j slot b p : ℕ) (change : Change) (spa
 -- one attempt after others
 module _ (g : Geometry) (b p : ℕ) (change : Change) (first next : ℕ) (x : List ℕ) (from : p < spare_block g first) where
   pub replaces_none : next_spare g x ≤ first → Replaces g b p change first first x x
-  replaces_none below = record { size = refl; same = λ k lt. refl; others = λ other not. refl; this = inl refl; below = below }
+  replaces_none below = record { size = refl; same = λ k lt. refl; others = λ other not. refl; this = inl refl; below = below; adds = adds_none g b x x (λ slot lt. refl) }
 
   pub replaces_wider : (more : ℕ) (y : List ℕ) → next ≤ more → Replaces g b p change first next x y → Replaces g b p change first more x y
   replaces_wider more y le left = record {
@@ -182,6 +185,7 @@ module _ (g : Geometry) (b p : ℕ) (change : Change) (first next : ℕ) (x : Li
     others = left.others;
     this = ⊎_elim (λ same. inl same) (λ r. inr (record { spare = r.spare; least = r.least; most = omega (arith, r.most, le); stands = r.stands; filled = r.filled })) left.this;
     below = omega (arith, left.below, le);
+    adds = left.adds;
   }
 
   module _ (mid y : List ℕ) (le : first ≤ next) (so_far : Replaces g b p change first next x mid) where
@@ -224,4 +228,5 @@ module _ (g : Geometry) (b p : ℕ) (change : Change) (first next : ℕ) (x : Li
       others = λ other not. here.others other not ∙ so_far.others other not;
       this = ⊎_elim (λ same. ⊎_elim (λ was. inl (same ∙ was)) (λ r. inr (stands_still here same r)) so_far.this) (λ r. inr (replaced_on r)) here.this;
       below = here.below;
+      adds = adds_joined g b x mid y so_far.adds here.adds;
     }

@@ -4,6 +4,7 @@ use Rattle.std.proofs.lemmas.Bool.{cond-true, cond-false}
 use Rattle.std.proofs.lemmas.Bool.Decides.{nat_tests}
 use Rattle.std.proofs.Math.Nat.{mul-le-mul_left}
 use Rattle.flash_dev.specs.Changes.{Changes}
+use Rattle.flash_remap.specs.Added.{AddsFor}
 use Rattle.flash_remap.specs.Change.{AreBytes, FindsBlank, IsDoneBy, IsTornBy, LiesInBlock, begins_at, changed_len, wanted}
 use Rattle.flash_remap.specs.Layout.{Geometry, map_place, slots_in, spare_block}
 use Rattle.flash_remap.specs.Logical.{byte_in, logical}
@@ -12,10 +13,11 @@ use Rattle.flash_remap.specs.Replaced.{IsBlankFrom, IsReplaced, Replaces}
 use Rattle.flash_remap.specs.declared.change.Change.{Change}
 use Rattle.flash_remap.specs.declared.change.Change.TheVariants.{Erase, Program}
 use Rattle.flash_remap.specs.declared.entry.Entry.{Entry}
+use Rattle.flash_remap.proofs.AddedLemmas.{adds_none}
 use Rattle.flash_remap.proofs.FillLemmas.{blocks_apart}
 use Rattle.flash_remap.proofs.LogicalLemmas.{logical_changes}
 use Rattle.flash_remap.proofs.NextLemmas.{next_slot_kept}
-use Rattle.flash_remap.proofs.SlotLemmas.{counting_kept, ordered}
+use Rattle.flash_remap.proofs.SlotLemmas.{counting_kept, ordered, slot_kept}
 
 pub in_block : (z : ℕ) (change : Change) → LiesInBlock z change → begins_at change + changed_len z change ≤ z
 in_block z Erase lies = omega arith
@@ -92,6 +94,9 @@ module _ (g : Geometry) (x : List ℕ) (b from at n : ℕ) (block : b < g.logica
       spare_is = spare_kept ∙ next.spare_is;
       slot_is = next_slot_kept g x y changes.size (λ k lt. changes.after (map_place g + k) (omega (arith, before_map, fits))) ∙ next.slot_is;
     }
+
+    pub adds_kept : AddsFor g b x y
+    adds_kept = adds_none g b x y (slot_kept g x y changes.size (λ k lt. changes.after (map_place g + k) (omega (arith, before_map, fits))))
 
     elsewhere : (q k : ℕ) → q ≢ from → k < g.block_len → get_or y (q * g.block_len + k) 0 ≡ get_or x (q * g.block_len + k) 0
     elsewhere q k not lt = ⊎_elim (λ before. changes.before (q * g.block_len + k) (omega (arith, before, lt))) (λ after. changes.after (q * g.block_len + k) (omega (arith, after, fits))) (blocks_apart g.block_len q from not)

@@ -1,5 +1,5 @@
 -- Counts of faults, attempt by attempt.
-use Rattle.std.proofs.Common.{◌⊎◌, inl, inr, ⊎_elim, ℕ, ◌+◌, ◌-◌, ◌^◌, ◌≤◌, min, arith}
+use Rattle.std.proofs.Common.{◌≡◌, ◌⊎◌, inl, inr, ⊎_elim, ℕ, ◌+◌, ◌-◌, ◌^◌, ◌≤◌, min, arith}
 use Rattle.std.proofs.lemmas.Bool.{cases_lt}
 use Rattle.ssu_io.specs.Faults.{Rose}
 
@@ -32,3 +32,29 @@ uses_at_most s n j0 i0 j1 i1 f0 mid f1 spare most_spare slot most_slot slots ros
     (λ top. inl top)
     (λ count. ⊎_elim (λ top. inl (omega (arith, top, later))) (λ up. inr (uses_up s n j0 i0 j1 i1 f0 f1 spare most_spare slot most_slot slots (omega (arith, up, count)))) (rose_cases f0 mid rose))
     counted
+
+-- each spare that was passed over was tried, and so was the block itself
+pub counted_in_all : (f0 mid f1 j0 j1 : ℕ) → Rose f0 mid → mid ≤ f1 → (2 ^ 64 ≤ f1 + 1) ⊎ (mid + j1 ≤ f1 + j0 + 1) → (2 ^ 64 ≤ f1 + 1) ⊎ (f0 + j1 ≤ f1 + j0)
+counted_in_all f0 mid f1 j0 j1 rose later counted = ⊎_elim
+    (λ top. inl top)
+    (λ count. ⊎_elim (λ top. inl (omega (arith, top, later))) (λ up. inr (omega (arith, up, count))) (rose_cases f0 mid rose))
+    counted
+
+-- where no replacement is left, each of those that were was tried
+none_over : (s n j0 i0 j1 i1 f0 mid f1 : ℕ) → j0 ≤ j1 → j1 ≤ s → i0 ≤ i1 → i1 ≤ n → i1 + j0 ≤ j1 + i0 → min (s - j1) (n - i1) ≡ 0 → f0 + 1 ≤ mid → mid + j1 ≤ f1 + j0
+    → min (s - j0) (n - i0) + 1 + f0 ≤ f1
+none_over s n j0 i0 j1 i1 f0 mid f1 spare most_spare slot most_slot slots none up count = omega arith
+
+pub tried_all : (s n j0 i0 j1 i1 f0 mid f1 : ℕ) → j0 ≤ j1 → j1 ≤ s → i0 ≤ i1 → i1 ≤ n → i1 + j0 ≤ j1 + i0 → min (s - j1) (n - i1) ≡ 0 → Rose f0 mid → mid ≤ f1
+    → (2 ^ 64 ≤ f1 + 1) ⊎ (mid + j1 ≤ f1 + j0) → (2 ^ 64 ≤ f1 + 1) ⊎ (min (s - j0) (n - i0) + 1 + f0 ≤ f1)
+tried_all s n j0 i0 j1 i1 f0 mid f1 spare most_spare slot most_slot slots none rose later counted = ⊎_elim
+    (λ top. inl top)
+    (λ count. ⊎_elim (λ top. inl (omega (arith, top, later))) (λ up. inr (none_over s n j0 i0 j1 i1 f0 mid f1 spare most_spare slot most_slot slots none up count)) (rose_cases f0 mid rose))
+    counted
+
+-- replacements that are used do not come back
+pub fewer_left : (s n j0 i0 j1 i1 : ℕ) → j0 ≤ j1 → i0 ≤ i1 → min (s - j1) (n - i1) ≤ min (s - j0) (n - i0)
+fewer_left s n j0 i0 j1 i1 spare slot = omega arith
+
+pub one_less : (s n j0 i0 j1 i1 : ℕ) → j0 + 1 ≤ j1 → j1 ≤ s → i0 + 1 ≤ i1 → i1 ≤ n → min (s - j1) (n - i1) + 1 ≤ min (s - j0) (n - i0)
+one_less s n j0 i0 j1 i1 spare most_spare slot most_slot = omega arith

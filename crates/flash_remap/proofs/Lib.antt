@@ -1,3 +1,4 @@
+pub mod AddedLemmas
 pub mod AttemptLemmas
 pub mod BeneathLemmas
 pub mod ChangeLemmas

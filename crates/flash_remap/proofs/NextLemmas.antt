@@ -5,7 +5,7 @@ use Rattle.flash_remap.specs.Entry.{entry_in}
 use Rattle.flash_remap.specs.Layout.{Geometry, map_place, slot_place, slots_in}
 use Rattle.flash_remap.specs.Map.{counting_before, is_blank, next_slot, next_slot_before, slot_bytes, with_next}
 use Rattle.flash_remap.specs.Replaced.{IsBlankFrom}
-use Rattle.flash_remap.proofs.SlotLemmas.{slot_at, slot_len, slot_same}
+use Rattle.flash_remap.proofs.SlotLemmas.{slot_at, slot_kept, slot_len}
 
 blank_all : (xs : List ℕ) → ((k : ℕ) → k < length xs → get_or xs k 0 ≡ 255) → is_blank xs ≡ true
 blank_all [] each = refl
@@ -21,7 +21,7 @@ cond_most b x y most first second = cond_both b x y (λ (n : ℕ). n ≤ most) (
 
 module _ (g : Geometry) where
   -- a slot of erased bytes
-  blank_slot : (x : List ℕ) (slot : ℕ) → IsBlankFrom g x slot → (k : ℕ) → slot ≤ k → k < slots_in g → is_blank (slot_bytes g x k) ≡ true
+  pub blank_slot : (x : List ℕ) (slot : ℕ) → IsBlankFrom g x slot → (k : ℕ) → slot ≤ k → k < slots_in g → is_blank (slot_bytes g x k) ≡ true
   blank_slot x slot blank k from lt = blank_all (slot_bytes g x k) (λ i within.
       let in_slot : i < 16 = omega (arith, within, length-take 16 (drop (slot_place g k) x)) in
       let place : slot_place g k + i ≡ map_place g + (16 * k + i) = omega arith in
@@ -99,6 +99,4 @@ module _ (g : Geometry) where
 
   -- where the map is as it was, so is the next slot
   pub next_slot_kept : (x y : List ℕ) → length y ≡ length x → ((k : ℕ) → k < 16 * slots_in g → get_or y (map_place g + k) 0 ≡ get_or x (map_place g + k) 0) → next_slot g y ≡ next_slot g x
-  next_slot_kept x y size same = next_same x y (slots_in g) (λ slot lt. slot_same g x y slot size (λ k in_slot.
-      let place : slot_place g slot + k ≡ map_place g + (16 * slot + k) = omega arith in
-      subst (λ (p : ℕ). get_or y p 0 ≡ get_or x p 0) (sym place) (same (16 * slot + k) (omega (arith, lt, in_slot)))))
+  next_slot_kept x y size same = next_same x y (slots_in g) (slot_kept g x y size same)

@@ -102,8 +102,13 @@ module _ (g : Geometry) where
         ap (λ (o : Option Entry). with_next g (counting_before g y slot) o) is ∙ ap (λ (es : List Entry). with_next g es (Some e)) front in
         whole ∙ (one ∙ counts g (counting g x) e (next_spare g x) (ordered x (slots_in g)).next block spare above)
 
-  -- where the map is as it was, so are the counting entries
-  pub counting_kept : (x y : List ℕ) → length y ≡ length x → ((k : ℕ) → k < 16 * slots_in g → get_or y (map_place g + k) 0 ≡ get_or x (map_place g + k) 0) → counting g y ≡ counting g x
-  counting_kept x y size same = counting_same x y (slots_in g) (λ slot lt. slot_same x y slot size (λ k in_slot.
+  -- where the map is as it was, so is each slot
+  pub slot_kept : (x y : List ℕ) → length y ≡ length x → ((k : ℕ) → k < 16 * slots_in g → get_or y (map_place g + k) 0 ≡ get_or x (map_place g + k) 0)
+      → (slot : ℕ) → slot < slots_in g → slot_bytes g y slot ≡ slot_bytes g x slot
+  slot_kept x y size same slot lt = slot_same x y slot size (λ k in_slot.
       let place : slot_place g slot + k ≡ map_place g + (16 * slot + k) = omega arith in
-      subst (λ (p : ℕ). get_or y p 0 ≡ get_or x p 0) (sym place) (same (16 * slot + k) (omega arith))))
+      subst (λ (p : ℕ). get_or y p 0 ≡ get_or x p 0) (sym place) (same (16 * slot + k) (omega arith)))
+
+  -- and so are the counting entries
+  pub counting_kept : (x y : List ℕ) → length y ≡ length x → ((k : ℕ) → k < 16 * slots_in g → get_or y (map_place g + k) 0 ≡ get_or x (map_place g + k) 0) → counting g y ≡ counting g x
+  counting_kept x y size same = counting_same x y (slots_in g) (slot_kept x y size same)

@@ -1,3 +1,4 @@
+pub mod Added
 pub mod Change
 pub mod Entry
 pub mod Layout

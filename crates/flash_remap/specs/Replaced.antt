@@ -1,5 +1,6 @@
 -- What is left of the inner flash while spares are tried for a block.
 use Rattle.std.specs.Prelude.{◌≡◌, ◌≢◌, ◌⊎◌, ℕ, ◌+◌, ◌*◌, ◌<◌, ◌≤◌, List, length, slice_index}
+use Rattle.flash_remap.specs.Added.{AddsFor}
 use Rattle.flash_remap.specs.Change.{wanted}
 use Rattle.flash_remap.specs.Layout.{Geometry, map_place, slots_in, spare_block}
 use Rattle.flash_remap.specs.Map.{next_spare, place_of}
@@ -27,10 +28,11 @@ pub record IsReplaced (g : Geometry) (block from : ℕ) (change : Change) (first
 
 -- Of x, y may be left once spares from one number up to another were tried for a block that stands at `from`: all blocks before
 -- these spares are as they were, the same block stands for each other logical one, and for this one the same as before or one of
--- these spares, which is filled.
+-- these spares, which is filled. The map was only added to.
 pub record Replaces (g : Geometry) (block from : ℕ) (change : Change) (first next : ℕ) (x y : List ℕ) : Type 0 where
   pub size : length y ≡ length x
   pub same : (k : ℕ) → k < spare_block g first * g.block_len → slice_index y k ≡ slice_index x k
   pub others : (other : ℕ) → other ≢ block → place_of g y other ≡ place_of g x other
   pub this : (place_of g y block ≡ place_of g x block) ⊎ IsReplaced g block from change first next x y
   pub below : next_spare g y ≤ next
+  pub adds : AddsFor g block x y

@@ -2,7 +2,8 @@
 ghost use Rattle.std.specs.Prelude.{◌≡◌, ◌≢◌, ◌⊎◌, ◌+◌, ◌-◌, ◌*◌, ◌^◌, ◌<◌, ◌≤◌, IfOk, IfSome, IsErr, List};
 ghost use Rattle.std.specs.Prelude.{MatchOption, OnErr, OnOk, length, ℕ};
 ghost use Rattle.flash_dev.specs.Changes.{Changes};
-ghost use Rattle.flash_dev.specs.Moments.{Elapses};
+ghost use Rattle.flash_dev.specs.Moments.{Elapses, LeavesOnly};
+ghost use Rattle.flash_remap.specs.Added.{AddsFor};
 ghost use Rattle.flash_remap.specs.Change.{AreBytes, FindsBlank, IsDoneBy, IsTornBy, LiesInBlock, begins_at, changed_len};
 ghost use Rattle.flash_remap.specs.Layout.{IsLaidOut, blocks_in, left_from, slots_in, spare_block};
 ghost use Rattle.flash_remap.specs.Logical.{IsLeft, logical};
@@ -71,7 +72,12 @@ pub(crate) fn change_block<F: Flash>(
     ensures whole { F.tells → length (F.contents inner.new) ≡ F.block_count inner.new * F.block_len inner.new }
     ensures spare { next.old.spare ≤ next.new.spare }
     ensures most_spare { next.new.spare ≤ layout.spares }
+    ensures slot { next.old.slot ≤ next.new.slot }
     ensures most_slot { next.new.slot ≤ slots_in (geometry layout) }
+    ensures used { IfOk result (λ moved. MatchOption moved (next.new ≡ next.old) (λ entry. next.old.slot + 1 ≤ next.new.slot)) }
+    ensures adds { F.tells → AddsFor (geometry layout) block (F.contents inner.old) (F.contents inner.new) }
+    ensures adds_left { LeavesOnly F.moment F.left_since inner.old inner.new
+        (λ y. F.tells → AddsFor (geometry layout) block (F.contents inner.old) y) }
 
     // Its causes.
     ensures none_left { OnErr result (left_from (geometry layout) next.new.spare next.new.slot ≡ 0) }
@@ -79,6 +85,11 @@ pub(crate) fn change_block<F: Flash>(
     ensures uses { (2 ^ 64 ≤ F.faults inner.new + 1)
         ⊎ (left_from (geometry layout) next.old.spare next.old.slot + F.faults inner.old
         ≤ left_from (geometry layout) next.new.spare next.new.slot + F.faults inner.new) }
+    ensures counted { (2 ^ 64 ≤ F.faults inner.new + 1)
+        ⊎ (F.faults inner.old + next.new.spare ≤ F.faults inner.new + next.old.spare) }
+    ensures tried { OnErr result ((2 ^ 64 ≤ F.faults inner.new + 1)
+        ⊎ (left_from (geometry layout) next.old.spare next.old.slot + 1 + F.faults inner.old ≤ F.faults inner.new)) }
+    ensures rose_moved { IfOk result (λ moved. IfSome moved (λ entry. Rose (F.faults inner.old) (F.faults inner.new))) }
     ensures later { F.faults inner.old ≤ F.faults inner.new }
     ensures blocks { F.block_count inner.new ≡ F.block_count inner.old }
     ensures block_size { F.block_len inner.new ≡ F.block_len inner.old }

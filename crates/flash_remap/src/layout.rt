@@ -1,5 +1,5 @@
 //! Where logical blocks, spares and the map stand in the inner flash.
-ghost use Rattle.std.specs.Prelude.{◌≡◌, ◌↔◌, ◌+◌, ◌*◌, ◌<◌, ◌≤◌, IfSome, IsSome, length};
+ghost use Rattle.std.specs.Prelude.{◌≡◌, ◌↔◌, ◌+◌, ◌*◌, ◌/◌, ◌<◌, ◌≤◌, IfSome, IsSome, length};
 ghost use Rattle.flash_remap.specs.Layout.{IsInLimits, IsLaidOut, blocks_in, left_from, slot_place, slots_in, spare_block};
 ghost use Rattle.flash_remap.specs.Shape.{geometry};
 
@@ -57,6 +57,7 @@ impl Layout {
     pub(crate) fn parts(self, at: u32) -> (u32, u32)
         requires inside { at < self.logical * self.block_size }
         ensures block { result.0 < self.logical }
+        ensures block_is { result.0 ≡ at / self.block_size }
         ensures within { result.1 < self.block_size }
         ensures is { at ≡ result.0 * self.block_size + result.1 }
     {

@@ -1,5 +1,5 @@
 //! A flash whose failing blocks are replaced by spares.
-ghost use Rattle.std.specs.Prelude.{true, false, ◌≡◌, ◌⊎◌, ◌↔◌, ◌+◌, ◌-◌, ◌*◌, ◌<◌, ◌≤◌, List, ℕ, length, IfErr, IfOk};
+ghost use Rattle.std.specs.Prelude.{true, false, ◌≡◌, ◌⊎◌, ◌↔◌, ◌+◌, ◌-◌, ◌*◌, ◌/◌, ◌<◌, ◌≤◌, List, ℕ, length, IfErr, IfOk};
 ghost use Rattle.std.specs.Prelude.{IsErrAnd, IsErr, OnErr, OnOk};
 ghost use Rattle.flash_dev.specs.Changes.{Changes, Holds, IsBlank, IsErased, IsProgrammed, IsTornErase, IsTornProgram, LiesInOneBlock};
 ghost use Rattle.flash_dev.specs.Moments.{Elapses};
@@ -48,7 +48,7 @@ pub struct Remap<F: Flash> {
 }
 
 impl<F: Flash> Remap<F> {
-    ghost use Rattle.flash_remap.specs.Seen.{Answers, Wears, block_count_of, block_len_of, contents_of, faults_of};
+    ghost use Rattle.flash_remap.specs.Seen.{Answers, Places, Wears, block_count_of, block_len_of, contents_of, faults_of};
     ghost use Rattle.flash_remap.specs.Seen.{geometry_of, halted_of, inner_of, left_of, left_since_of, worn_of};
 
     /// Opens a flash that has so many spares, with the replacements that its map tells of. It changes nothing, and takes no
@@ -171,6 +171,7 @@ impl<F: Flash> Remap<F> {
         ensures cause { HasCause (faults_of self.old) (faults_of self.new) result }
         ensures answers { Answers self.old self.new result }
         ensures wears { Wears self.old self.new result }
+        ensures places { Places block self.old self.new result }
     {
         if self.worn {
             self.faults = self.faults.saturating_add(1);
@@ -202,7 +203,7 @@ impl<F: Flash> Remap<F> {
 
 impl<F: Flash> Flash for Remap<F> {
     ghost use Rattle.flash_remap.specs.SeenLaws.{byte_seen, only_seen, seen_now};
-    ghost use Rattle.flash_remap.specs.Seen.{Answers, Wears, block_count_of, block_len_of, contents_of, faults_of};
+    ghost use Rattle.flash_remap.specs.Seen.{Answers, Places, Wears, block_count_of, block_len_of, contents_of, faults_of};
     ghost use Rattle.flash_remap.specs.Seen.{halted_of, inner_of, left_of, left_since_of, worn_of};
 
     ghost tells = { F.tells };
@@ -291,6 +292,7 @@ impl<F: Flash> Flash for Remap<F> {
         ensures cause { HasCause (faults_of self.old) (faults_of self.new) result }
         ensures answers { Answers self.old self.new result }
         ensures wears { Wears self.old self.new result }
+        ensures places { Places block self.old self.new result }
     {
         self.change(block, Change::Erase)
     }
@@ -318,6 +320,7 @@ impl<F: Flash> Flash for Remap<F> {
         ensures cause { HasCause (faults_of self.old) (faults_of self.new) result }
         ensures answers { Answers self.old self.new result }
         ensures wears { Wears self.old self.new result }
+        ensures places { Places (at / block_len_of self.old) self.old self.new result }
     {
         let (block, within) = self.layout.parts(at);
         self.change(block, Change::Program(within, bytes))

@@ -58,6 +58,7 @@ pub(crate) fn replace<F: Flash>(
     ensures slot { next.old.slot ≤ next.new.slot }
     ensures most_slot { next.new.slot ≤ slots_in (geometry layout) }
     ensures slots { next.new.slot + next.old.spare ≤ next.new.spare + next.old.slot }
+    ensures used { OnOk result (next.old.slot + 1 ≤ next.new.slot) }
 
     // Each attempt but the one that does not fail has raised the count.
     ensures counted { (2 ^ 64 ≤ F.faults inner.new + 1)
@@ -110,6 +111,7 @@ fn attempt<F: Flash>(
     ensures spare { next.new.spare ≡ next.old.spare + 1 }
     ensures slot { next.old.slot ≤ next.new.slot }
     ensures slots { next.new.slot ≤ next.old.slot + 1 }
+    ensures used { OnOk result (next.new.slot ≡ next.old.slot + 1) }
     ensures blocks { F.block_count inner.new ≡ F.block_count inner.old }
     ensures block_size { F.block_len inner.new ≡ F.block_len inner.old }
     ensures halt { F.halted inner.old → IsErr result × F.halted inner.new }

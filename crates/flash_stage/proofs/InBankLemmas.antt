@@ -3,13 +3,14 @@ use Rattle.std.proofs.Common.{◌≡◌, ◌≢◌, ◌⊎◌, inl, inr, ⊎_eli
 use Rattle.std.specs.Prelude.{Contains}
 use Rattle.std.proofs.lemmas.Bool.{cases_lt, eq-eqb}
 use Rattle.flash_dev.specs.Changes.{Changes, Holds, IsBlank, IsProgrammed}
-use Rattle.flash_bank.specs.Bank.{Fits, current_of, geometry_of, len_of, spare_bank}
-use Rattle.flash_bank.specs.Layout.{bank_len, bank_place}
-use Rattle.flash_bank.specs.Pairs.{part}
+use Rattle.flash_bank.specs.Bank.{Fits, current_of, geometry_of, len_of, spare_bank, spare_journal}
+use Rattle.flash_layout.specs.Layout.{Geometry, area_len, area_place, journal_len, journal_place}
+use Rattle.flash_layout.specs.Pairs.{part}
 use Rattle.flash_bank.specs.Sound.{image_of}
 use Rattle.flash_bank.specs.declared.bank.Bank.{Bank}
-use Rattle.flash_bank.proofs.PartLemmas.{part_held}
-use Rattle.flash_bank.proofs.Places.{bank_within, part_apart}
+use Rattle.flash_bank.specs.declared.record.Record.{Record}
+use Rattle.flash_layout.proofs.PartLemmas.{part_held}
+use Rattle.flash_layout.proofs.Places.{area_within, part_apart}
 use Rattle.flash_bank.specs.Record.{next_record}
 use Rattle.group_image.specs.Image.{bytes_at, bytes_of}
 use Rattle.group_image.proofs.ImageLaws.{joined_image, place_inside, places-le-total, places_apart}
@@ -19,6 +20,7 @@ use Rattle.ssu_group.specs.declared.group_plan.GroupPlan.{GroupPlan}
 use Rattle.ssu_group.specs.declared.module_plan.ModulePlan.{ModulePlan}
 use Rattle.ssu_group.specs.declared.places.Place.{Place}
 use Rattle.ssu_group.proofs.PlaceLaws.{fill_image}
+use Rattle.flash_bank.proofs.BankLemmas.{front_image, len_less}
 use Rattle.flash_stage.specs.InBank.{IsBegun, bytes_from, bytes_in_bank, outline_in_bank}
 use Rattle.flash_stage.specs.Leaving.{SameBank}
 use Rattle.flash_stage.specs.Outline.{group_text, module_text}
@@ -80,6 +82,14 @@ still_blank plan old new P x y n m p q same e f other changes blank k lt =
     (⊎_elim (λ front. changes.before (spare_bank old + p.at + k) (omega (arith, front)) ∙ blank k lt) (λ behind. changes.after (spare_bank old + p.at + k) (omega (arith, behind)) ∙ blank k lt)
     (apart plan n m p q e f other))
 
+-- an erased journal is one of the same bank
+pub same_journal : (old new : Bank) (c : List ℕ) → SameBank old new → ((current_of old).layout ≡ 2 → IsBlank c (spare_journal old) (journal_len (geometry_of old)))
+    → (current_of new).layout ≡ 2 → IsBlank c (spare_journal new) (journal_len (geometry_of new))
+same_journal old new c same blank two =
+    let was : (current_of old).layout ≡ 2 = ap (λ (r : Record). r.layout) (sym same.current) ∙ two in
+    subst (λ (g : Geometry). IsBlank c (journal_place g (1 - (current_of new).bank)) (journal_len g)) (sym same.geometry)
+    (subst (λ (r : Record). IsBlank c (journal_place (geometry_of old) (1 - r.bank)) (journal_len (geometry_of old))) (sym same.current) (blank was))
+
 -- and what stands at another
 pub still_bytes : (plan : GroupPlan) (old new : Bank) (P : ℕ → ℕ → ℕ → Type 0) (x y : List ℕ) (n m : ℕ) (q : Place) → SameBank old new → place_of plan m ≡ Some q → n ≢ m
     → Changes (spare_bank old + q.at) q.len P x y → bytes_from (spare_bank new) y (place_of plan n) ≡ bytes_from (spare_bank old) x (place_of plan n)
@@ -98,17 +108,17 @@ pub new_bytes : (plan : GroupPlan) (old new : Bank) (x y bytes : List ℕ) (n : 
 new_bytes plan old new x y bytes n q same f long fits short changes =
     let g = geometry_of new in
     let inside = inside_plan plan n q f in
-    let within : bank_place g (1 - (current_of new).bank) + bank_len g ≤ g.blocks * g.block_len = bank_within g new.limits (1 - (current_of new).bank) (omega arith) in
+    let within : area_place g (1 - (current_of new).bank) + area_len g ≤ g.blocks * g.block_len = area_within g new.limits (1 - (current_of new).bank) (omega arith) in
     let spot : spare_bank old + q.at ≡ spare_bank new + q.at = ap (λ (s : ℕ). s + q.at) (sym (spare_bank_same old new same)) in
     ap (bytes_from (spare_bank new) y) f
-    ∙ part_held y bytes (spare_bank new + q.at) q.len long (omega (arith, within, inside, fits.sound.size)) (λ k lt. subst (λ (s : ℕ). get_or y (s + k) 0 ≡ get_or bytes k 0) spot (changes.inside k lt))
+    ∙ part_held y bytes (spare_bank new + q.at) q.len long (omega (arith, within, inside, len_less new, fits.sound.size)) (λ k lt. subst (λ (s : ℕ). get_or y (s + k) 0 ≡ get_or bytes k 0) spot (changes.inside k lt))
 
 -- bytes that were read are a part of the contents
 pub read_part : (bank : Bank) (c bytes : List ℕ) (at n : ℕ) → Fits bank c → length bytes ≡ n → at + n ≤ len_of bank → Holds c (spare_bank bank + at) bytes → part c (spare_bank bank + at) n ≡ bytes
 read_part bank c bytes at n fits long inside holds =
     let g = geometry_of bank in
-    let within : bank_place g (1 - (current_of bank).bank) + bank_len g ≤ g.blocks * g.block_len = bank_within g bank.limits (1 - (current_of bank).bank) (omega arith) in
-    part_held c bytes (spare_bank bank + at) n long (omega (arith, within, fits.sound.size)) holds
+    let within : area_place g (1 - (current_of bank).bank) + area_len g ≤ g.blocks * g.block_len = area_within g bank.limits (1 - (current_of bank).bank) (omega arith) in
+    part_held c bytes (spare_bank bank + at) n long (omega (arith, within, len_less bank, fits.sound.size)) holds
 
 -- a part and the one behind it
 pub parts_joined : (c : List ℕ) (at m n : ℕ) → part c at m ++ part c (at + m) n ≡ part c at (m + n)
@@ -151,11 +161,12 @@ pub other_number : (marked : ℕ → Bool) (n q : ℕ) → marked n ≡ true →
 other_number marked n q set free same = let is : marked n ≡ marked q = ap marked same in absurd cc
 
 -- the image that its places join to
-pub whole_bank : (s : BankStage) (bank : Bank) (c : List ℕ) → IsBegun s bank → (software : SwId) (group : ℕ)
+pub whole_bank : (s : BankStage) (bank : Bank) (c : List ℕ) → Fits bank c → ((current_of bank).layout ≡ 2 → IsBlank c (spare_journal bank) (journal_len (geometry_of bank))) → IsBegun s bank → (software : SwId) (group : ℕ)
     → image_of (geometry_of bank) c (next_record (current_of bank) s.total software group) ≡ group_text (bytes_in_bank s bank c) (outline_in_bank s)
 unfolding bytes_in_bank bytes_at
-whole_bank s bank c begun software group =
-    sym (joined_image (plan_in_bank s bank begun) (record { map = s.map; total = s.total; buffer = drop (spare_bank bank) c }) (bytes_in_bank s bank c) (record { places = refl; total = refl })
+whole_bank s bank c fits journal begun software group =
+    front_image bank c fits (next_record (current_of bank) s.total software group) refl refl begun.fits journal
+    ∙ sym (joined_image (plan_in_bank s bank begun) (record { map = s.map; total = s.total; buffer = drop (spare_bank bank) c }) (bytes_in_bank s bank c) (record { places = refl; total = refl })
     (λ number below. read_from bank c (place_at s.block_size s.modules.items number)))
 
 -- the bytes of a module

@@ -2,16 +2,18 @@
 use Rattle.std.proofs.Common.{◌≡◌, inl, inr, ⊎_elim, ℕ, ◌+◌, ◌-◌, ◌*◌, ◌≤◌, List, length, get_or, refl, ap, subst, ◌∙◌, arith}
 use Rattle.std.specs.Prelude.{Err, IfOk, Ok, OnOk, Result}
 use Rattle.flash_dev.specs.Changes.{Changes, IsBlank, IsProgrammed}
-use Rattle.flash_bank.specs.Bank.{Fits, LeavesBegun, LeavesCommitted, LeavesFilled, block_of, current_of, geometry_of, len_of, spare_bank}
-use Rattle.flash_bank.specs.Layout.{Geometry, bank_len, bank_place, len_under}
+use Rattle.flash_bank.specs.Bank.{Fits, LeavesBegun, LeavesCommitted, LeavesFilled, block_of, current_of, geometry_of, len_of, spare_bank, spare_journal}
+use Rattle.flash_layout.specs.Layout.{Geometry, area_len, area_place, journal_len}
+use Rattle.flash_bank.specs.Layout.{len_under}
 use Rattle.flash_bank.specs.Leaving.{Installs, KeepsBoot}
 use Rattle.flash_bank.specs.Record.{next_record}
 use Rattle.flash_bank.specs.Sound.{Commits, IsCurrent, boot_of, image_of}
 use Rattle.flash_bank.specs.declared.bank.Bank.{Bank}
 use Rattle.flash_bank.specs.declared.record.Record.{Record}
+use Rattle.flash_bank.proofs.BankLemmas.{front_image, len_less}
 use Rattle.flash_bank.proofs.LeavingLemmas.{committed_installs, committed_keeps_boot, filled_keeps_boot, keeps_boot_joined, keeps_then_installs}
-use Rattle.flash_bank.proofs.PartLemmas.{part_held}
-use Rattle.flash_bank.proofs.Places.{bank_within}
+use Rattle.flash_layout.proofs.PartLemmas.{part_held}
+use Rattle.flash_layout.proofs.Places.{area_within}
 use Rattle.ssu_compat.specs.declared.rule.SwId.{SwId}
 use Rattle.flash_stage.specs.Leaving.{FinishLeaves, SameBank}
 
@@ -105,6 +107,7 @@ pub record Filled (bank begun filled : Bank) (image x mid full : List ℕ) : Typ
   pub leaves : LeavesFilled begun 0 image mid full
   pub done : Changes (spare_bank begun + 0) (length image) (IsProgrammed image) mid full
   pub fits : Fits filled full
+  pub journal : (current_of filled).layout ≡ 2 → IsBlank full (spare_journal filled) (journal_len (geometry_of filled))
 
 module _ (bank begun filled : Bank) (image x mid full : List ℕ) (software : SwId) (group : ℕ) (is : Filled bank begun filled image x mid full) where
   -- the record as `commit` names it
@@ -125,9 +128,10 @@ module _ (bank begun filled : Bank) (image x mid full : List ℕ) (software : Sw
   image_is =
       let g = geometry_of filled in
       let place : spare_bank begun + 0 ≡ spare_bank filled = omega (arith, spare_bank_same bank begun is.past.same, spare_bank_same bank filled is.same) in
-      let within : bank_place g (1 - (current_of filled).bank) + bank_len g ≤ g.blocks * g.block_len = bank_within g filled.limits (1 - (current_of filled).bank) (omega arith) in
-      let short : length image ≤ bank_len g = omega (arith, is.past.inside, len_same bank filled is.same) in
-      part_held full image (spare_bank filled) (length image) refl (omega (arith, within, short, is.fits.sound.size))
+      let within : area_place g (1 - (current_of filled).bank) + area_len g ≤ g.blocks * g.block_len = area_within g filled.limits (1 - (current_of filled).bank) (omega arith) in
+      let short : length image ≤ len_of filled = omega (arith, is.past.inside, len_same bank filled is.same) in
+      front_image filled full is.fits head refl refl short is.journal
+      ∙ part_held full image (spare_bank filled) (length image) refl (omega (arith, within, short, len_less filled, is.fits.sound.size))
       (λ k lt. subst (λ (p : ℕ). get_or full (p + k) 0 ≡ get_or image k 0) place (is.done.inside k lt))
 
   -- within `commit`

@@ -7,14 +7,13 @@ use Rattle.std.proofs.lemmas.List.{same_lists, places as list_places}
 use Rattle.ssu_group.specs.declared.module_plan.ModulePlan.{ModulePlan}
 use Rattle.ssu_group.specs.declared.places.Place.{Place}
 use Rattle.ssu_group.specs.declared.group_plan.GroupPlan.{GroupPlan}
-use Rattle.ssu_group.specs.Carried.{carried_image, filling, joined, missing_places, module_bytes}
+use Rattle.ssu_group.specs.Carried.{Fills, HaveLengths, carried_image, joined, missing_places, module_bytes}
 use Rattle.ssu_group.specs.Place.{FillImage, place_at, place_in}
 use Rattle.ssu_group.specs.Plan.{IsPlan, are_joined, block_count, size_of}
 use Rattle.ssu_group.proofs.MapLaws.{all_marked}
 use Rattle.ssu_group.proofs.PlaceLaws.{Begins, Inside, begin_joined, blocks_reach, block_begins, fill_image}
 use Rattle.group_image.specs.Image.{bytes_of}
 use Rattle.group_image.proofs.ImageLaws.{place_below}
-use Rattle.group_image.proofs.LengthLaws.{filling_len}
 use Rattle.flash_stage.specs.Outline.{module_text, outline_of}
 
 -- ---- a module of a plan
@@ -183,15 +182,15 @@ module _ (plan : GroupPlan) (text : ℕ → List ℕ) (measures : Measures plan 
       (λ k below. (reads_at plan.places (m.first + k) (place_in b m k) (module_below b plan.modules.items plan.places plan.total m k plan.planned among below) (l.places k below)).1))
 
 -- the bytes of a module in the image that is carried whole
-pub carried_module : (plan : GroupPlan) (window : List (List ℕ)) (m : ModulePlan) → missing_places plan window ≡ 0 → Contains plan.modules.items m
-    → module_bytes (carried_image plan window) m ≡ module_text (λ (n : ℕ). unwrap_or (filling plan window n) []) m
-carried_module plan window m whole among = module_of_texts plan (λ (n : ℕ). unwrap_or (filling plan window n) []) (λ n p at. long n p at (filling plan window n) refl) m among
+pub carried_module : (plan : GroupPlan) (fills : Fills) (m : ModulePlan) → HaveLengths plan fills → missing_places plan fills ≡ 0 → Contains plan.modules.items m
+    → module_bytes (carried_image plan fills) m ≡ module_text (λ (n : ℕ). unwrap_or (fills n) []) m
+carried_module plan fills m lengths whole among = module_of_texts plan (λ (n : ℕ). unwrap_or (fills n) []) (λ n p at. long n p at (fills n) refl) m among
   where
-    long : (n : ℕ) (p : Place) → place_at plan.block_size plan.modules.items n ≡ Some p → (o : Option (List ℕ)) → filling plan window n ≡ o → length (unwrap_or o []) ≡ p.len
+    long : (n : ℕ) (p : Place) → place_at plan.block_size plan.modules.items n ≡ Some p → (o : Option (List ℕ)) → fills n ≡ o → length (unwrap_or o []) ≡ p.len
     long n p at None none =
-        let is : is_some (filling plan window n) ≡ true = all_marked (λ (k : ℕ). is_some (filling plan window k)) plan.places whole n (place_below plan n p at) in
+        let is : is_some (fills n) ≡ true = all_marked (λ (k : ℕ). is_some (fills k)) plan.places whole n (place_below plan n p at) in
         absurd cc
-    long n p at (Some b) some = filling_len plan window n p b at some
+    long n p at (Some b) some = lengths n p b at some
 
 -- plans of the same modules have one outline
 pub one_outline : (p q : GroupPlan) → p.block_size ≡ q.block_size → p.modules.items ≡ q.modules.items → outline_of p ≡ outline_of q

@@ -2,13 +2,14 @@
 use Rattle.std.specs.Prelude.{◌≡◌, ℕ, ◌+◌, ◌≤◌, Bool, true, false, List, [], Option, None, Some}
 use Rattle.std.proofs.Common.{ap}
 use Rattle.flash_dev.specs.Changes.{IsBlank}
-use Rattle.flash_bank.specs.Bank.{is_begun, len_of, spare_bank}
+use Rattle.flash_layout.specs.Layout.{journal_len}
+use Rattle.flash_bank.specs.Bank.{current_of, geometry_of, is_begun, len_of, spare_bank, spare_journal}
 use Rattle.flash_bank.specs.declared.bank.Bank.{Bank}
 use Rattle.ssu_group.specs.Map.{marked}
 use Rattle.ssu_group.specs.Place.{place_at}
 use Rattle.ssu_group.specs.Plan.{IsPlan}
 use Rattle.ssu_group.specs.declared.places.Place.{Place}
-use Rattle.flash_bank.specs.Pairs.{part}
+use Rattle.flash_layout.specs.Pairs.{part}
 use Rattle.flash_stage.specs.Outline.{Outline, place_of}
 use Rattle.flash_stage.specs.declared.bank_stage.BankStage.{BankStage}
 
@@ -39,10 +40,11 @@ pub record IsBegun (s : BankStage) (bank : Bank) : Type 0 where
   pub fits : s.total ≤ len_of bank
   pub begun : is_begun bank ≡ true
 
--- Each place that is not staged is blank in the spare bank.
-abbrev pub LeavesBlank : BankStage → Bank → List ℕ → Type 0
-LeavesBlank s bank contents = (number : ℕ) (p : Place) → place_at s.block_size s.modules.items number ≡ Some p → marked s.map number ≡ false
-    → IsBlank contents (spare_bank bank + p.at) p.len
+-- Each place that is not staged is blank in the spare bank, and in layout 2 so is the journal behind it.
+pub record LeavesBlank (s : BankStage) (bank : Bank) (contents : List ℕ) : Type 0 where
+  pub places : (number : ℕ) (p : Place) → place_at s.block_size s.modules.items number ≡ Some p → marked s.map number ≡ false
+      → IsBlank contents (spare_bank bank + p.at) p.len
+  pub journal : (current_of bank).layout ≡ 2 → IsBlank contents (spare_journal bank) (journal_len (geometry_of bank))
 
 -- each place stands in its own range
 pub stands_in_bank : true ≡ true → (s : BankStage) (bank : Bank) (contents : List ℕ) (number : ℕ) (p : Place) → place_of (outline_in_bank s) number ≡ Some p

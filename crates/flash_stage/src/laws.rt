@@ -2,14 +2,14 @@
 
 ghost use Rattle.std.specs.Prelude.{◌≡◌, ◌+◌, ◌<◌, Contains, List, [], length, ℕ, unwrap_or, Some};
 ghost use Rattle.flash_bank.specs.Bank.{len_of};
-ghost use Rattle.flash_bank.specs.Layout.{Geometry};
+ghost use Rattle.flash_layout.specs.Layout.{Geometry};
 ghost use Rattle.flash_bank.specs.Leaving.{Installs, KeepsBoot};
 ghost use Rattle.flash_bank.specs.Sound.{IsCurrent, IsSound};
 ghost use Rattle.flash_bank.specs.declared.bank.Bank.{Bank};
 ghost use Rattle.flash_bank.specs.declared.record.Record.{Record};
 ghost use Rattle.flash_stage.specs.Leaving.{FinishLeaves, SameBank};
 ghost use Rattle.flash_stage.specs.Outline.{module_text, outline_of};
-ghost use Rattle.ssu_group.specs.Carried.{carried_image, filling, joined, missing_places, module_bytes};
+ghost use Rattle.ssu_group.specs.Carried.{Fills, HaveLengths, carried_image, joined, missing_places, module_bytes};
 ghost use Rattle.ssu_group.specs.Place.{place_at};
 ghost use Rattle.ssu_group.specs.declared.group_plan.GroupPlan.{GroupPlan};
 ghost use Rattle.ssu_group.specs.declared.module_plan.ModulePlan.{ModulePlan};
@@ -48,9 +48,9 @@ pub fn modules_join_their_places()
         → ((n : ℕ) (p : Place) → place_at plan.block_size plan.modules.items n ≡ Some p → length (text n) ≡ p.len)
         → module_bytes (joined text plan.places) m ≡ module_text text m }
     // In the image that sections carry.
-    ensures carried { (plan : GroupPlan) (window : List (List ℕ)) (m : ModulePlan) → missing_places plan window ≡ 0
-        → Contains plan.modules.items m
-        → module_bytes (carried_image plan window) m ≡ module_text (λ n. unwrap_or (filling plan window n) []) m }
+    ensures carried { (plan : GroupPlan) (fills : Fills) (m : ModulePlan) → HaveLengths plan fills
+        → missing_places plan fills ≡ 0 → Contains plan.modules.items m
+        → module_bytes (carried_image plan fills) m ≡ module_text (λ n. unwrap_or (fills n) []) m }
     // The same texts join to the same bytes.
     ensures same { (f g : ℕ → List ℕ) (n : ℕ) → ((k : ℕ) → k < n → f k ≡ g k) → joined f n ≡ joined g n }
 {}

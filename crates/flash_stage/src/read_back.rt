@@ -2,7 +2,7 @@
 
 ghost use Rattle.std.specs.Prelude.{◌≡◌, ◌+◌, ◌++◌, ◌≤◌, IfOk, List, OnErr, OnOk, length, true, ℕ};
 ghost use Rattle.flash_bank.specs.Bank.{IsLent, is_begun, is_spent, len_of, spare_bank};
-ghost use Rattle.flash_bank.specs.Pairs.{part};
+ghost use Rattle.flash_layout.specs.Pairs.{part};
 ghost use Rattle.flash_bank.specs.Runs.{OnlyReads};
 ghost use Rattle.flash_stage.specs.Leaving.{SameBank};
 ghost use Rattle.ssu_io.specs.Faults.{HasCause};

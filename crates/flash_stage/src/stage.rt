@@ -4,7 +4,7 @@ ghost use Rattle.std.specs.Prelude.{◌≡◌, ◌≢◌, ◌+◌, ◌-◌, ◌<
 ghost use Rattle.flash_dev.specs.Moments.{LeavesOnly};
 ghost use Rattle.flash_bank.specs.Bank.{IsLent, block_of, current_of, geometry_of, is_begun, is_spent, len_of, spare_bank};
 ghost use Rattle.flash_bank.specs.Leaving.{Installs, KeepsBoot};
-ghost use Rattle.flash_bank.specs.Pairs.{part};
+ghost use Rattle.flash_layout.specs.Pairs.{part};
 ghost use Rattle.flash_bank.specs.Record.{next_record};
 ghost use Rattle.flash_bank.specs.Runs.{OnlyReads};
 ghost use Rattle.flash_bank.specs.declared.bank.Bank.{Bank};

@@ -20,6 +20,7 @@ const NEW: SwId = SwId {
 // A record of an image of 3 bytes.
 const fn record(number: u32, bank: u8) -> Record {
     Record {
+        layout: 1,
         number,
         bank,
         length: 3,
@@ -81,7 +82,7 @@ fn flash_with(alloc: Global, held: &[u8]) -> Result<MemFlash, Fail> {
 }
 
 // Puts an image into the spare bank and commits it, as far as the flash does not fail.
-fn install<F: Flash>(flash: &mut F, image: &[u8]) -> Result<(), FlashFault> {
+pub(crate) fn install<F: Flash>(flash: &mut F, image: &[u8]) -> Result<(), FlashFault> {
     let mut bank = Bank::open(flash).map_err(|_| FlashFault)?;
     if image.len() > bank.bank_len() as usize {
         return Err(FlashFault);

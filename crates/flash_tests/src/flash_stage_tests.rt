@@ -211,6 +211,7 @@ fn places_come_in_any_order_and_become_the_image(rt: HostRuntime) -> Result<(), 
     assert_eq!(rt; crcs.as_slice(), stated.as_slice());
     let (head, image) = booted(rt.alloc(), &flash)?;
     let stated = Record {
+        layout: 1,
         number: 2,
         bank: 1,
         length: 8,

@@ -2,8 +2,12 @@
 #![tactic(auto)]
 
 #[cfg(test)]
+mod flash_bank_journal_tests;
+#[cfg(test)]
 mod flash_bank_tests;
 #[cfg(test)]
 mod flash_dev_tests;
+#[cfg(test)]
+mod flash_layout_two_tests;
 #[cfg(test)]
 mod flash_stage_tests;

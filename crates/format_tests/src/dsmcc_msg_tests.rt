@@ -1,5 +1,6 @@
 //! Messages as they stand in a stream.
 
+use crate::check::{same, same_at};
 use dsmcc_msg::{Ddb, Dii, DiiWriter, Dsi, DsiWriter, write_ddb};
 use section_form::{LongForm, MakeFault, long_section};
 use ssu_compat::{Oui, Plain, write};
@@ -81,15 +82,15 @@ fn a_written_dsi_is_these_bytes_and_read_back(rt: HostRuntime) -> Result<(), Fai
     let Ok(made) = writer.finish() else {
         panic!(rt; "memory is ample");
     };
-    assert_eq!(rt; made.as_slice(), DSI.as_slice());
+    same(&rt, &made.as_slice(), &DSI.as_slice());
     let Some(dsi) = Dsi::read(&made) else {
         panic!(rt; "it is a DSI");
     };
-    assert_eq!(rt; dsi.transaction, 0x8000_0000);
-    assert_eq!(rt; group_count(&dsi), 1);
+    same(&rt, &dsi.transaction, &0x8000_0000);
+    same(&rt, &group_count(&dsi), &1);
     for group in dsi.groups() {
-        assert_eq!(rt; (group.id, group.size), (0x8000_0002, 9));
-        assert_eq!(rt; group.info.len(), 0);
+        same(&rt, &(group.id, group.size), &(0x8000_0002, 9));
+        same(&rt, &group.info.len(), &0);
     }
     Ok(())
 }
@@ -101,22 +102,23 @@ fn a_written_dii_is_these_bytes_and_read_back(rt: HostRuntime) -> Result<(), Fai
     let Ok(made) = writer.finish() else {
         panic!(rt; "memory is ample");
     };
-    assert_eq!(rt; made.as_slice(), DII.as_slice());
+    same(&rt, &made.as_slice(), &DII.as_slice());
     let Some(dii) = Dii::read(&made) else {
         panic!(rt; "it is a DII");
     };
-    assert_eq!(rt;
-        (dii.transaction, dii.download, dii.block_size),
-        (0x8000_0002, 0x8000_0002, 4066)
+    same(
+        &rt,
+        &(dii.transaction, dii.download, dii.block_size),
+        &(0x8000_0002, 0x8000_0002, 4066),
     );
-    assert_eq!(rt; dii.message(), &DII[8..DII.len() - 4]);
+    same(&rt, &dii.message(), &&DII[8..DII.len() - 4]);
     let Some(again) = Dii::read_message(dii.message()) else {
         panic!(rt; "its message is a DII");
     };
-    assert_eq!(rt; module_count(&again), 1);
+    same(&rt, &module_count(&again), &1);
     for module in again.modules() {
-        assert_eq!(rt; (module.id, module.size, module.version), (1, 9, 0));
-        assert_eq!(rt; module.info, CRC_INFO.as_slice());
+        same(&rt, &(module.id, module.size, module.version), &(1, 9, 0));
+        same(&rt, &module.info, &CRC_INFO.as_slice());
     }
     Ok(())
 }
@@ -131,15 +133,16 @@ fn a_written_ddb_is_these_bytes_and_read_back(rt: HostRuntime) -> Result<(), Fai
         bytes: b"123456789",
     };
     let made = write_ddb(rt.alloc(), ddb, 257)?;
-    assert_eq!(rt; made.as_slice(), DDB.as_slice());
+    same(&rt, &made.as_slice(), &DDB.as_slice());
     let Some(read) = Ddb::read(&made) else {
         panic!(rt; "it is a DDB");
     };
-    assert_eq!(rt;
-        (read.download, read.module, read.version, read.block),
-        (0x8000_0002, 1, 33, 257)
+    same(
+        &rt,
+        &(read.download, read.module, read.version, read.block),
+        &(0x8000_0002, 1, 33, 257),
     );
-    assert_eq!(rt; read.bytes, b"123456789".as_slice());
+    same(&rt, &read.bytes, &b"123456789".as_slice());
     Ok(())
 }
 
@@ -149,15 +152,19 @@ fn a_section_has_room_for_506_modules(rt: HostRuntime) -> Result<(), Fail> {
     for id in 0..506u16 {
         writer.module(id, 1, 0, &[])?;
     }
-    assert_eq!(rt; writer.module(506, 1, 0, &[]), Err(MakeFault::TooLong));
+    same(
+        &rt,
+        &writer.module(506, 1, 0, &[]),
+        &Err(MakeFault::TooLong),
+    );
     let Ok(made) = writer.finish() else {
         panic!(rt; "memory is ample");
     };
     let Some(dii) = Dii::read(&made) else {
         panic!(rt; "it is a DII");
     };
-    assert_eq!(rt; module_count(&dii), 506);
-    assert_eq!(rt; made.len(), 3 + 9 + 12 + 22 + 506 * 8);
+    same(&rt, &module_count(&dii), &506);
+    same(&rt, &made.len(), &(3 + 9 + 12 + 22 + 506 * 8));
     Ok(())
 }
 
@@ -174,7 +181,7 @@ fn free_bytes_are_not_looked_at(rt: HostRuntime) -> Result<(), Fail> {
     let Some(dsi) = Dsi::read(&made) else {
         panic!(rt; "it is a DSI");
     };
-    assert_eq!(rt; group_count(&dsi), 1);
+    same(&rt, &group_count(&dsi), &1);
     // three bytes of adaptation
     let made = section(
         rt.alloc(),
@@ -202,7 +209,7 @@ fn free_bytes_are_not_looked_at(rt: HostRuntime) -> Result<(), Fail> {
     let Some(ddb) = Ddb::read(&made) else {
         panic!(rt; "it is a DDB");
     };
-    assert_eq!(rt; ddb.bytes.len(), 0);
+    same(&rt, &ddb.bytes.len(), &0);
     Ok(())
 }
 
@@ -258,9 +265,11 @@ fn what_is_no_dsi_is_refused(rt: HostRuntime) -> Result<(), Fail> {
         ),
     ];
     for (what, body) in bodies {
-        assert!(rt;
-            Dsi::read(&section(rt.alloc(), 0x3B, body)?).is_none(),
-            "{what}"
+        same_at(
+            &rt,
+            what,
+            &Dsi::read(&section(rt.alloc(), 0x3B, body)?).is_none(),
+            &true,
         );
     }
     Ok(())
@@ -291,9 +300,11 @@ fn what_is_no_dii_is_refused(rt: HostRuntime) -> Result<(), Fail> {
         ),
     ];
     for (what, body) in bodies {
-        assert!(rt;
-            Dii::read(&section(rt.alloc(), 0x3B, body)?).is_none(),
-            "{what}"
+        same_at(
+            &rt,
+            what,
+            &Dii::read(&section(rt.alloc(), 0x3B, body)?).is_none(),
+            &true,
         );
     }
     Ok(())
@@ -309,7 +320,7 @@ fn a_block_has_at_most_4066_bytes(rt: HostRuntime) -> Result<(), Fail> {
         bytes: &[0; 4066],
     };
     let made = write_ddb(rt.alloc(), ddb, 0)?;
-    assert_eq!(rt; made.len(), 4096);
+    same(&rt, &made.len(), &4096);
     assert!(rt; Ddb::read(&made).is_some());
     // one byte more, with section_length 4094 and its right CRC
     let mut longer = Vec::new(rt.alloc());
@@ -318,7 +329,7 @@ fn a_block_has_at_most_4066_bytes(rt: HostRuntime) -> Result<(), Fail> {
     )?;
     longer.extend_from_slice(&[0; 4067])?;
     longer.extend_from_slice(b"\x15\xBD\xCC\x46")?;
-    assert_eq!(rt; longer.len(), 4097);
+    same(&rt, &longer.len(), &4097);
     assert!(rt; Ddb::read(&longer).is_none());
     Ok(())
 }

@@ -2,6 +2,8 @@
 #![tactic(auto)]
 
 #[cfg(test)]
+mod check;
+#[cfg(test)]
 mod dsmcc_msg_tests;
 #[cfg(test)]
 mod section_form_tests;

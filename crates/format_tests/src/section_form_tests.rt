@@ -1,5 +1,6 @@
 //! Sections as they stand in a stream.
 
+use crate::check::same;
 use section_form::{MakeFault, is_right, long, table_section};
 use ssu_io::NoMemory;
 use std::test::Fail;
@@ -12,13 +13,13 @@ const PAT: [u8; 16] = [
 #[test]
 fn written_section_is_right_and_gives_its_fields_back(rt: HostRuntime) -> Result<(), Fail> {
     let section = table_section(rt.alloc(), 0x00, 1, 0, &PAT[8..12], false)?;
-    assert_eq!(rt; section.as_slice(), PAT.as_slice());
+    same(&rt, &section.as_slice(), &PAT.as_slice());
     assert!(rt; is_right(&PAT));
     let Some(read) = long(&section) else {
         panic!(rt; "the section is in the long form");
     };
-    assert_eq!(rt; read.extension, 1);
-    assert_eq!(rt; read.body, &PAT[8..12]);
+    same(&rt, &read.extension, &1);
+    same(&rt, &read.body, &&PAT[8..12]);
     Ok(())
 }
 
@@ -32,6 +33,6 @@ fn time_and_date_table_has_no_crc(rt: HostRuntime) {
 
 #[test]
 fn want_of_memory_is_a_fault_of_its_own(rt: HostRuntime) {
-    assert_eq!(rt; MakeFault::from(NoMemory), MakeFault::Memory);
+    same(&rt, &MakeFault::from(NoMemory), &MakeFault::Memory);
     assert_ne!(rt; MakeFault::Memory, MakeFault::TooLong);
 }

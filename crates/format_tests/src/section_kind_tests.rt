@@ -1,5 +1,6 @@
 //! Sections off their grammar, blocks of the greatest length, and both tables of time, by the kind that they have.
 
+use crate::check::{same, same_at};
 use section_form::{LongForm, long_section};
 use section_kind::{SectionKind, kind};
 use si_table::write_tdt;
@@ -142,15 +143,17 @@ fn a_section_off_its_grammar_has_no_kind(rt: HostRuntime) -> Result<(), Fail> {
     ];
     for (wanted, table, right, number, wrong) in rows {
         let word = wanted.word();
-        assert_eq!(rt;
-            kind(&section(rt.alloc(), table, 0, right)?),
-            Some(wanted),
-            "{word}"
+        same_at(
+            &rt,
+            word,
+            &kind(&section(rt.alloc(), table, 0, right)?),
+            &Some(wanted),
         );
-        assert_eq!(rt;
-            kind(&section(rt.alloc(), table, number, wrong)?),
-            None,
-            "{word}"
+        same_at(
+            &rt,
+            word,
+            &kind(&section(rt.alloc(), table, number, wrong)?),
+            &None,
         );
     }
     Ok(())
@@ -160,14 +163,14 @@ fn a_section_off_its_grammar_has_no_kind(rt: HostRuntime) -> Result<(), Fail> {
 fn a_block_has_4066_bytes_at_most(rt: HostRuntime) -> Result<(), Fail> {
     let alloc = rt.alloc();
     let longest = section(alloc, 0x3C, 0, &block_of(alloc, 4066)?)?;
-    assert_eq!(rt; kind(&longest), Some(SectionKind::Ddb));
+    same(&rt, &kind(&longest), &Some(SectionKind::Ddb));
     // section_length 4094, with a right CRC
     let mut longer = Vec::from_slice(alloc, b"\x3C\xBF\xFE\x00\x01\xC1\x00\x00")?;
     longer.extend_from_slice(&block_of(alloc, 4067)?)?;
     let end = crc(&longer);
     longer.extend_from_slice(&end.to_be_bytes())?;
-    assert_eq!(rt; crc(&longer), 0);
-    assert_eq!(rt; kind(&longer), None);
+    same(&rt, &crc(&longer), &0);
+    same(&rt, &kind(&longer), &None);
     Ok(())
 }
 
@@ -177,14 +180,14 @@ fn times_are_told_by_their_tables(rt: HostRuntime) -> Result<(), Fail> {
         mjd: 49273,
         second: 45900,
     };
-    let tdt = write_tdt(rt.alloc(), time).ok().ok_or("memory")?;
-    assert_eq!(rt; kind(&tdt), Some(SectionKind::Tdt(time)));
+    let tdt = write_tdt(rt.alloc(), time).expect(&rt, "memory");
+    same(&rt, &kind(&tdt), &Some(SectionKind::Tdt(time)));
     let mut tot = Vec::from_slice(rt.alloc(), b"\x73\x70\x0B\xC0\x79\x12\x45\x00\xF0\x00")?;
     let end = crc(&tot);
     tot.extend_from_slice(&end.to_be_bytes())?;
-    assert_eq!(rt; kind(&tot), Some(SectionKind::Tot(time)));
+    same(&rt, &kind(&tot), &Some(SectionKind::Tot(time)));
     // hour 24
-    assert_eq!(rt; kind(b"\x70\x70\x05\xC0\x79\x24\x00\x00"), None);
-    assert_eq!(rt; kind(&[]), None);
+    same(&rt, &kind(b"\x70\x70\x05\xC0\x79\x24\x00\x00"), &None);
+    same(&rt, &kind(&[]), &None);
     Ok(())
 }

@@ -1,6 +1,7 @@
 //! Sections that tshark 4.0.17 (Wireshark) and libdvbpsi 1.3.3 were seen to accept with the same fields, and whose CRC
 //! tshark found right. The script outside/tables.py of the repository makes the comparison again.
 
+use crate::check::same;
 use si_table::*;
 use std::test::*;
 
@@ -26,26 +27,31 @@ const TOT: &[u8] =
 
 #[test]
 fn pat_and_pmt_have_the_fields_that_other_decoders_read(rt: HostRuntime) -> Result<(), Fail> {
-    let pat = Pat::read(PAT).ok_or("a PAT")?;
-    assert_eq!(rt; pat.ts, 1);
+    let pat = Pat::read(PAT).expect(&rt, "a PAT");
+    same(&rt, &pat.ts, &1);
     let mut programs = Vec::new(rt.alloc());
     for program in pat.programs() {
         programs.push((program.number, program.pid.get()))?;
     }
-    assert_eq!(rt;
-        programs.as_slice(),
-        [(0, 16), (3, 256), (4, 496)].as_slice()
+    same(
+        &rt,
+        &programs.as_slice(),
+        &[(0, 16), (3, 256), (4, 496)].as_slice(),
     );
 
     let Some(pmt) = Pmt::read(PMT) else {
         panic!(rt; "a PMT");
     };
-    assert_eq!(rt; (pmt.program, pmt.pcr.get()), (3, 8191));
+    same(&rt, &(pmt.program, pmt.pcr.get()), &(3, 8191));
     let mut streams = Vec::new(rt.alloc());
     for stream in pmt.streams() {
         streams.push((stream.kind, stream.pid.get(), stream.info.len()))?;
     }
-    assert_eq!(rt; streams.as_slice(), [(5, 259, 14), (11, 258, 3)].as_slice());
+    same(
+        &rt,
+        &streams.as_slice(),
+        &[(5, 259, 14), (11, 258, 3)].as_slice(),
+    );
     Ok(())
 }
 
@@ -55,7 +61,7 @@ fn nit_and_bat_have_the_fields_that_other_decoders_read(rt: HostRuntime) -> Resu
         let Some(net) = Net::read(section) else {
             panic!(rt; "a NIT or a BAT");
         };
-        assert_eq!(rt; (net.table, net.id), (table, id));
+        same(&rt, &(net.table, net.id), &(table, id));
         assert!(rt;
             net.info
                 .starts_with(b"\x4A\x0C\x00\x01\x00\x02\x00\x03\x09")
@@ -64,7 +70,7 @@ fn nit_and_bat_have_the_fields_that_other_decoders_read(rt: HostRuntime) -> Resu
         for entry in net.entries() {
             entries.push((entry.ts, entry.network, entry.info.len()))?;
         }
-        assert_eq!(rt; entries.as_slice(), [(1, 2, 5)].as_slice());
+        same(&rt, &entries.as_slice(), &[(1, 2, 5)].as_slice());
     }
     Ok(())
 }
@@ -72,13 +78,13 @@ fn nit_and_bat_have_the_fields_that_other_decoders_read(rt: HostRuntime) -> Resu
 #[test]
 fn tdt_and_tot_have_the_time_that_other_decoders_read(rt: HostRuntime) {
     match Tdt::read(TDT) {
-        Some(tdt) => assert_eq!(rt; tdt.time.text(), *b"1993-10-13T12:45:00"),
+        Some(tdt) => same(&rt, &tdt.time.text(), &*b"1993-10-13T12:45:00"),
         None => panic!(rt; "a TDT"),
     }
     match Tot::read(TOT) {
         Some(tot) => {
-            assert_eq!(rt; tot.time.text(), *b"1993-10-13T12:45:00");
-            assert_eq!(rt; tot.info.len(), 15);
+            same(&rt, &tot.time.text(), &*b"1993-10-13T12:45:00");
+            same(&rt, &tot.info.len(), &15);
         }
         None => panic!(rt; "a TOT"),
     }

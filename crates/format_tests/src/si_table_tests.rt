@@ -3,6 +3,7 @@
 ghost use Rattle.std.specs.Prelude.{IfOk};
 ghost use Rattle.si_desc.specs.Descriptors.{IsRow};
 
+use crate::check::same;
 use section_form::MakeFault;
 use si_table::*;
 use ssu_time::Utc;
@@ -31,38 +32,36 @@ fn empty_descriptors(alloc: Global, count: usize) -> Result<Vec<u8>, AllocError>
 
 #[test]
 fn pat_and_net_are_read_back(rt: HostRuntime) -> Result<(), Fail> {
-    let section = write_pat(rt.alloc(), 1, 3, pid(256)).ok().ok_or("memory")?;
+    let section = write_pat(rt.alloc(), 1, 3, pid(256)).expect(&rt, "memory");
     assert!(rt; section.starts_with(b"\x00\xB0\x0D\x00\x01\xC1\x00\x00\x00\x03\xE1\x00"));
-    let pat = Pat::read(&section).ok_or("a PAT")?;
-    assert_eq!(rt; pat.ts, 1);
+    let pat = Pat::read(&section).expect(&rt, "a PAT");
+    same(&rt, &pat.ts, &1);
     let mut seen = 0u8;
     for program in pat.programs() {
-        assert_eq!(rt; (program.number, program.pid.get()), (3, 256));
+        same(&rt, &(program.number, program.pid.get()), &(3, 256));
         seen = seen.saturating_add(1);
     }
-    assert_eq!(rt; seen, 1);
+    same(&rt, &seen, &1);
     let info = empty_descriptors(rt.alloc(), 1)?;
-    let section = write_net(rt.alloc(), 0x4A, 7, &info, 1, 2)
-        .ok()
-        .ok_or("memory")?;
+    let section = write_net(rt.alloc(), 0x4A, 7, &info, 1, 2).expect(&rt, "memory");
     let Some(net) = Net::read(&section) else {
         panic!(rt; "a BAT");
     };
-    assert_eq!(rt; (net.table, net.id), (0x4A, 7));
-    assert_eq!(rt; net.info, b"\x5F\x00".as_slice());
+    same(&rt, &(net.table, net.id), &(0x4A, 7));
+    same(&rt, &net.info, &b"\x5F\x00".as_slice());
     let mut seen = 0u8;
     for entry in net.entries() {
-        assert_eq!(rt; (entry.ts, entry.network), (1, 2));
+        same(&rt, &(entry.ts, entry.network), &(1, 2));
         assert!(rt; entry.info.is_empty());
         seen = seen.saturating_add(1);
     }
-    assert_eq!(rt; seen, 1);
+    same(&rt, &seen, &1);
     Ok(())
 }
 
 #[test]
 fn pmt_of_two_streams_is_read_back(rt: HostRuntime) -> Result<(), Fail> {
-    let mut writer = PmtWriter::new(rt.alloc(), 3).ok().ok_or("memory")?;
+    let mut writer = PmtWriter::new(rt.alloc(), 3).expect(&rt, "memory");
     let info = empty_descriptors(rt.alloc(), 2)?;
     assert!(rt; writer.stream(0x05, pid(300), &info).is_ok());
     assert!(rt; writer.stream(0x0B, pid(258), &info).is_ok());
@@ -72,15 +71,15 @@ fn pmt_of_two_streams_is_read_back(rt: HostRuntime) -> Result<(), Fail> {
     let Some(pmt) = Pmt::read(&section) else {
         panic!(rt; "a PMT");
     };
-    assert_eq!(rt; (pmt.program, pmt.pcr.get()), (3, 0x1FFF));
+    same(&rt, &(pmt.program, pmt.pcr.get()), &(3, 0x1FFF));
     let mut seen = 0u8;
     for stream in pmt.streams() {
         let wanted = if seen == 0 { (0x05, 300) } else { (0x0B, 258) };
-        assert_eq!(rt; (stream.kind, stream.pid.get()), wanted);
-        assert_eq!(rt; stream.info, info.as_slice());
+        same(&rt, &(stream.kind, stream.pid.get()), &wanted);
+        same(&rt, &stream.info, &info.as_slice());
         seen = seen.saturating_add(1);
     }
-    assert_eq!(rt; seen, 2);
+    same(&rt, &seen, &2);
     Ok(())
 }
 
@@ -90,18 +89,19 @@ fn times_are_read_back(rt: HostRuntime) -> Result<(), Fail> {
         mjd: 49273,
         second: 45900,
     };
-    let section = write_tdt(rt.alloc(), time).ok().ok_or("memory")?;
-    assert_eq!(rt;
-        section.as_slice(),
-        b"\x70\x70\x05\xC0\x79\x12\x45\x00".as_slice()
+    let section = write_tdt(rt.alloc(), time).expect(&rt, "memory");
+    same(
+        &rt,
+        &section.as_slice(),
+        &b"\x70\x70\x05\xC0\x79\x12\x45\x00".as_slice(),
     );
     let info = empty_descriptors(rt.alloc(), 0)?;
-    let section = write_tot(rt.alloc(), time, &info).ok().ok_or("memory")?;
-    assert_eq!(rt; section.len(), 14);
+    let section = write_tot(rt.alloc(), time, &info).expect(&rt, "memory");
+    same(&rt, &section.len(), &14);
     assert!(rt; section.starts_with(b"\x73\x70\x0B\xC0\x79\x12\x45\x00\xF0\x00"));
-    assert_eq!(rt; crc(&section), 0);
+    same(&rt, &crc(&section), &0);
     match Tot::read(&section) {
-        Some(tot) => assert_eq!(rt; tot.time, time),
+        Some(tot) => same(&rt, &tot.time, &time),
         None => panic!(rt; "a TOT"),
     }
     // Hour 24.
@@ -129,9 +129,7 @@ fn damaged_tables_are_refused(rt: HostRuntime) -> Result<(), Fail> {
             last: 1,
             body,
         };
-        let section = section_form::long_section(rt.alloc(), head, true)
-            .ok()
-            .ok_or("memory")?;
+        let section = section_form::long_section(rt.alloc(), head, true).expect(&rt, "memory");
         assert!(rt; Pat::read(&section).is_none());
         assert!(rt; Pmt::read(&section).is_none());
         assert!(rt; Net::read(&section).is_none());
@@ -142,7 +140,7 @@ fn damaged_tables_are_refused(rt: HostRuntime) -> Result<(), Fail> {
 #[test]
 fn first_loop_of_a_nit_that_is_too_long_is_refused(rt: HostRuntime) -> Result<(), Fail> {
     let info = empty_descriptors(rt.alloc(), 501)?;
-    assert_eq!(rt; info.len(), 1002);
+    same(&rt, &info.len(), &1002);
     assert!(rt; write_net(rt.alloc(), 0x40, 1, &info, 1, 2).is_ok());
     let info = empty_descriptors(rt.alloc(), 502)?;
     assert!(rt;

@@ -1,5 +1,6 @@
 //! Compatibility descriptors by their bytes, the entries that match a box, and the rules by which it takes a software.
 
+use crate::check::same;
 use ssu_compat::*;
 use std::test::*;
 
@@ -8,20 +9,21 @@ const HARDWARE: &[u8] = b"\x00\x0D\x00\x01\x01\x09\x01\x00\x12\x34\x00\x07\x00\x
 
 #[test]
 fn descriptors_of_none_and_of_one_entry(rt: HostRuntime) -> Result<(), Fail> {
-    let (none, len) = Compat::read(b"\x00\x00").ok_or("no entries")?;
-    assert_eq!(rt; len, 2);
+    let (none, len) = Compat::read(b"\x00\x00").expect(&rt, "no entries");
+    same(&rt, &len, &2);
     assert!(rt; none.entries().next().is_none());
-    let (one, len) = Compat::read(HARDWARE).ok_or("one entry")?;
-    assert_eq!(rt; len, 15);
+    let (one, len) = Compat::read(HARDWARE).expect(&rt, "one entry");
+    same(&rt, &len, &15);
     let mut entries = one.entries();
     let Some(entry) = entries.next() else {
         panic!(rt; "an entry");
     };
-    assert_eq!(rt;
-        (entry.kind, entry.specifier, entry.oui.get()),
-        (1, 1, 0x1234)
+    same(
+        &rt,
+        &(entry.kind, entry.specifier, entry.oui.get()),
+        &(1, 1, 0x1234),
     );
-    assert_eq!(rt; (entry.model, entry.version, entry.subs), (7, 2, 0));
+    same(&rt, &(entry.model, entry.version, entry.subs), &(7, 2, 0));
     assert!(rt; entry.sub_bytes.is_empty());
     assert!(rt; entries.next().is_none());
     Ok(())
@@ -77,16 +79,14 @@ fn plain(kind: u8, oui: Oui, model: u16, version: u16) -> Plain {
 
 #[test]
 fn written_entries_are_matched_and_offered(rt: HostRuntime) -> Result<(), Fail> {
-    let oui = Oui::new(0x1234).ok_or("an OUI")?;
-    let other = Oui::new(0xFF_FFFF).ok_or("an OUI")?;
+    let oui = Oui::new(0x1234).expect(&rt, "an OUI");
+    let other = Oui::new(0xFF_FFFF).expect(&rt, "an OUI");
     assert!(rt; Oui::new(0x100_0000).is_none());
-    let one = write(rt.alloc(), &[plain(1, oui, 7, 2)])
-        .ok()
-        .ok_or("memory")?;
-    assert_eq!(rt; one.as_slice(), HARDWARE);
+    let one = write(rt.alloc(), &[plain(1, oui, 7, 2)]).expect(&rt, "memory");
+    same(&rt, &one.as_slice(), &HARDWARE);
     let entries = [plain(2, oui, 3, 9), plain(1, oui, 7, 2)];
-    let bytes = write(rt.alloc(), &entries).ok().ok_or("memory")?;
-    let (compat, _) = Compat::read(&bytes).ok_or("two entries")?;
+    let bytes = write(rt.alloc(), &entries).expect(&rt, "memory");
+    let (compat, _) = Compat::read(&bytes).expect(&rt, "two entries");
     let me = BoxId {
         oui,
         model: 7,
@@ -95,13 +95,14 @@ fn written_entries_are_matched_and_offered(rt: HostRuntime) -> Result<(), Fail> 
         serial: None,
     };
     assert!(rt; compat.matches(&me));
-    assert_eq!(rt;
-        compat.offered(oui),
-        Some(SwId {
+    same(
+        &rt,
+        &compat.offered(oui),
+        &Some(SwId {
             model: 3,
-            version: 9
-        })
+            version: 9,
+        }),
     );
-    assert_eq!(rt; compat.offered(other), None);
+    same(&rt, &compat.offered(other), &None);
     Ok(())
 }

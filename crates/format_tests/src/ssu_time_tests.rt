@@ -1,5 +1,6 @@
 //! Vectors from outside: the example of ETSI EN 300 468, annex C, and days of other calendars.
 
+use crate::check::{same, same_at};
 use ssu_time::*;
 use std::test::Fail;
 
@@ -11,24 +12,24 @@ fn written(text: &str) -> Option<[u8; 5]> {
 #[test]
 fn the_standards_example_is_read_and_written(rt: HostRuntime) -> Result<(), Fail> {
     let bytes = [0xC0, 0x79, 0x12, 0x45, 0x00];
-    let time = read_utc(&bytes).ok_or("no time")?;
-    assert_eq!(rt; time.mjd, 49273);
-    assert_eq!(rt; time.second, 45900);
-    assert_eq!(rt; time.seconds(), 4_257_233_100);
-    assert_eq!(rt; time.text(), *b"1993-10-13T12:45:00");
-    assert_eq!(rt; write_utc(time), bytes);
-    assert_eq!(rt; read_utc(&[0xC0, 0x79, 0x24, 0x45, 0x00]), None);
-    assert_eq!(rt; read_utc(&[0xC0, 0x79, 0x12, 0x45, 0x60]), None);
-    assert_eq!(rt; read_utc(&[0xC0, 0x79, 0x0A, 0x45, 0x00]), None);
+    let time = read_utc(&bytes).expect(&rt, "no time");
+    same(&rt, &time.mjd, &49273);
+    same(&rt, &time.second, &45900);
+    same(&rt, &time.seconds(), &4_257_233_100);
+    same(&rt, &time.text(), &*b"1993-10-13T12:45:00");
+    same(&rt, &write_utc(time), &bytes);
+    same(&rt, &read_utc(&[0xC0, 0x79, 0x24, 0x45, 0x00]), &None);
+    same(&rt, &read_utc(&[0xC0, 0x79, 0x12, 0x45, 0x60]), &None);
+    same(&rt, &read_utc(&[0xC0, 0x79, 0x0A, 0x45, 0x00]), &None);
     Ok(())
 }
 
 #[test]
 fn a_time_stands_at_the_front(rt: HostRuntime) -> Result<(), Fail> {
     let bytes = [0xC0, 0x79, 0x12, 0x45, 0x00, 7];
-    let (time, rest) = utc_at(&bytes).ok_or("no time")?;
-    assert_eq!(rt; time.text(), *b"1993-10-13T12:45:00");
-    assert_eq!(rt; rest.len(), 1);
+    let (time, rest) = utc_at(&bytes).expect(&rt, "no time");
+    same(&rt, &time.text(), &*b"1993-10-13T12:45:00");
+    same(&rt, &rest.len(), &1);
     assert!(rt; utc_at(&bytes[..4]).is_none());
     Ok(())
 }
@@ -43,9 +44,9 @@ fn texts_give_their_day_number(rt: HostRuntime) -> Result<(), Fail> {
         ("2024-03-01T01:00:00", 60370),
         ("2038-04-22T00:00:00", 65535),
     ] {
-        let time = civil(text).ok_or("no time")?;
-        assert_eq!(rt; time.mjd, mjd, "{text}");
-        assert_eq!(rt; time.text().as_slice(), text.as_bytes());
+        let time = civil(text).expect(&rt, "no time");
+        same_at(&rt, text, &time.mjd, &mjd);
+        same(&rt, &time.text().as_slice(), &text.as_bytes());
     }
     Ok(())
 }
@@ -69,15 +70,15 @@ fn other_texts_are_refused(rt: HostRuntime) {
         "2024-3-01T00:00:000",
         "+024-03-01T00:00:00",
     ] {
-        assert_eq!(rt; written(text), None, "{text}");
+        same_at(&rt, text, &written(text), &None);
     }
 }
 
 #[test]
 fn a_nightly_window_opens_for_two_hours(rt: HostRuntime) -> Result<(), Fail> {
     let window = Window {
-        start: civil("2024-03-01T01:00:00").ok_or("start")?.seconds(),
-        end: civil("2024-04-01T01:00:00").ok_or("end")?.seconds(),
+        start: civil("2024-03-01T01:00:00").expect(&rt, "start").seconds(),
+        end: civil("2024-04-01T01:00:00").expect(&rt, "end").seconds(),
         period: 24 * 3600,
         duration: 2 * 3600,
     };
@@ -90,8 +91,8 @@ fn a_nightly_window_opens_for_two_hours(rt: HostRuntime) -> Result<(), Fail> {
         ("2024-04-01T01:00:00", false),
         ("2024-03-01T00:59:59", false),
     ] {
-        let now = civil(text).ok_or("now")?.seconds();
-        assert_eq!(rt; window.is_open(now), open, "{text}");
+        let now = civil(text).expect(&rt, "now").seconds();
+        same_at(&rt, text, &window.is_open(now), &open);
     }
     Ok(())
 }

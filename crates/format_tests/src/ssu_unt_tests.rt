@@ -2,6 +2,7 @@
 
 ghost use Rattle.std.specs.Prelude.{length, ◌≤◌, IsTrue};
 
+use crate::check::same;
 use arrayvec::ArrayVec;
 use section_form::{MakeFault, table_section};
 use si_desc::descs;
@@ -85,51 +86,51 @@ fn is_table(section: &[u8]) -> bool {
 
 #[test]
 fn the_extension_has_the_hash_of_the_oui(rt: HostRuntime) -> Result<(), Fail> {
-    let oui = Oui::new(0x00015A).ok_or("oui")?;
+    let oui = Oui::new(0x00015A).expect(&rt, "oui");
     let section = table(rt.alloc(), oui, &[], &LOCATION, 1)?;
     let bytes = section.as_slice();
     assert!(rt; bytes.len() >= 5);
-    assert_eq!(rt; bytes[0], 0x4B);
-    assert_eq!(rt; bytes[3], 0x01);
-    assert_eq!(rt; bytes[4], 0x5B);
-    assert_eq!(rt; count(&section, &me(oui, None)), 1);
+    same(&rt, &bytes[0], &0x4B);
+    same(&rt, &bytes[3], &0x01);
+    same(&rt, &bytes[4], &0x5B);
+    same(&rt, &count(&section, &me(oui, None)), &1);
     Ok(())
 }
 
 #[test]
 fn a_mask_leaves_the_other_bits_free(rt: HostRuntime) -> Result<(), Fail> {
-    let oui = Oui::new(0x1234).ok_or("oui")?;
+    let oui = Oui::new(0x1234).expect(&rt, "oui");
     let target = [
         0x07, 12, 0xFF, 0xFF, 0xFF, 0, 0, 0, 0x00, 0x12, 0x34, 0, 0, 0,
     ];
     let section = table(rt.alloc(), oui, &target, &LOCATION, 1)?;
     let mut me = me(oui, None);
-    assert_eq!(rt; count(&section, &me), 1);
+    same(&rt, &count(&section, &me), &1);
     me.mac = Some([0x00, 0x12, 0x35, 0x56, 0x78, 0x9A]);
-    assert_eq!(rt; count(&section, &me), 0);
+    same(&rt, &count(&section, &me), &0);
     me.mac = None;
-    assert_eq!(rt; count(&section, &me), 0);
+    same(&rt, &count(&section, &me), &0);
     Ok(())
 }
 
 #[test]
 fn a_serial_number_is_compared_whole(rt: HostRuntime) -> Result<(), Fail> {
-    let oui = Oui::new(0x1234).ok_or("oui")?;
+    let oui = Oui::new(0x1234).expect(&rt, "oui");
     let section = table(rt.alloc(), oui, &[0x08, 3, 1, 2, 3], &LOCATION, 1)?;
     let mut serial = ArrayVec::new();
     serial.push(1u8);
     serial.push(2);
-    assert_eq!(rt; count(&section, &me(oui, None)), 0);
+    same(&rt, &count(&section, &me(oui, None)), &0);
     serial.push(3);
-    assert_eq!(rt; count(&section, &me(oui, Some(serial))), 1);
+    same(&rt, &count(&section, &me(oui, Some(serial))), &1);
     Ok(())
 }
 
 #[test]
 fn the_first_32_pairs_are_kept(rt: HostRuntime) -> Result<(), Fail> {
-    let oui = Oui::new(0x1234).ok_or("oui")?;
+    let oui = Oui::new(0x1234).expect(&rt, "oui");
     let section = table(rt.alloc(), oui, &[], &LOCATION, 33)?;
-    assert_eq!(rt; count(&section, &me(oui, None)), 32);
+    same(&rt, &count(&section, &me(oui, None)), &32);
     let other = BoxId {
         oui,
         model: 8,
@@ -137,13 +138,13 @@ fn the_first_32_pairs_are_kept(rt: HostRuntime) -> Result<(), Fail> {
         mac: None,
         serial: None,
     };
-    assert_eq!(rt; count(&section, &other), 0);
+    same(&rt, &count(&section, &other), &0);
     Ok(())
 }
 
 #[test]
 fn a_schedule_opens_a_nightly_window(rt: HostRuntime) -> Result<(), Fail> {
-    let oui = Oui::new(0x1234).ok_or("oui")?;
+    let oui = Oui::new(0x1234).expect(&rt, "oui");
     // 2024-03-01T01:00:00 to 2024-04-01T01:00:00, every 24 hours for 2 hours; a location; manual.
     let operational = [
         0x01, 14, 0xEB, 0xD2, 0x01, 0, 0, 0xEB, 0xF1, 0x01, 0, 0, 0x68, 24, 2, 0, 0x03, 4, 0x00,
@@ -155,10 +156,10 @@ fn a_schedule_opens_a_nightly_window(rt: HostRuntime) -> Result<(), Fail> {
     };
     let mut seen = 0u8;
     for entry in unt.targeted(&me(oui, None)).iter() {
-        assert_eq!(rt; entry.tag, 2);
-        assert_eq!(rt; entry.windows.len(), 1);
+        same(&rt, &entry.tag, &2);
+        same(&rt, &entry.windows.len(), &1);
         assert!(rt; entry.manual);
-        assert_eq!(rt; entry.subgroup, Some(258));
+        same(&rt, &entry.subgroup, &Some(258));
         let fifth_of_march = 60374 * 86400;
         assert!(rt; entry.is_open(Some(fifth_of_march + 2 * 3600), true));
         assert!(rt; !entry.is_open(Some(fifth_of_march + 2 * 3600), false));
@@ -166,14 +167,14 @@ fn a_schedule_opens_a_nightly_window(rt: HostRuntime) -> Result<(), Fail> {
         assert!(rt; !entry.is_open(None, true));
         seen = seen.saturating_add(1);
     }
-    assert_eq!(rt; seen, 1);
+    same(&rt, &seen, &1);
     Ok(())
 }
 
 #[test]
 fn descriptors_of_an_operational_loop_are_these_bytes(rt: HostRuntime) -> Result<(), Fail> {
-    let start = civil("2024-03-01T01:00:00").ok_or("start")?;
-    let end = civil("2024-04-01T01:00:00").ok_or("end")?;
+    let start = civil("2024-03-01T01:00:00").expect(&rt, "start");
+    let end = civil("2024-04-01T01:00:00").expect(&rt, "end");
     let mut row = Vec::new(rt.alloc());
     put_scheduling(&mut row, start, end, 24, 2)?;
     put_update(&mut row, true)?;
@@ -186,16 +187,16 @@ fn descriptors_of_an_operational_loop_are_these_bytes(rt: HostRuntime) -> Result
         0x03, 4, 0x00, 0x0A, 0x00, 2, 0x0B, 5, 0, 0, 0, 1, 2, 0x01, 14, 0xEB, 0xD2, 0x01, 0, 0,
         0xEB, 0xF1, 0x01, 0, 0, 0x28, 0, 0, 0, 0x02, 1, 0x40,
     ];
-    assert_eq!(rt; row.as_slice(), bytes.as_slice());
+    same(&rt, &row.as_slice(), &bytes.as_slice());
     Ok(())
 }
 
 #[test]
 fn what_is_no_table_is_refused(rt: HostRuntime) -> Result<(), Fail> {
-    let oui = Oui::new(0x1234).ok_or("oui")?;
+    let oui = Oui::new(0x1234).expect(&rt, "oui");
     let alloc = rt.alloc();
     let bare = section(alloc, &[0, 0x12, 0x34, 0, 0xF0, 0])?;
-    assert_eq!(rt; count(&bare, &me(oui, None)), 0);
+    same(&rt, &count(&bare, &me(oui, None)), &0);
     let platform = [0, 0x12, 0x34, 0, 0xF0, 0, 0, 0, 0, 4, 0xF0, 0, 0xF0, 0];
     assert!(rt; is_table(&section(alloc, &platform)?));
     let lone_byte = [0, 0x12, 0x34, 0, 0xF0, 0, 0, 0, 0, 4, 0xF0, 0, 0xF0, 0, 0];
@@ -244,10 +245,10 @@ fn windows_open_and_close_at_the_second(rt: HostRuntime) {
             manual: false,
             subgroup: None,
         };
-        assert_eq!(rt;
-            entry.is_open(Some(second), false),
-            is_open,
-            "second {second}"
+        same(
+            &rt,
+            &(second, entry.is_open(Some(second), false)),
+            &(second, is_open),
         );
         assert!(rt; !entry.is_open(None, false));
     }

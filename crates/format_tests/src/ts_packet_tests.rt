@@ -1,5 +1,6 @@
 //! Packets as they stand in a stream.
 
+use crate::check::same;
 use ts_packet::{PACKET_LEN, Packet, Pid, read, write};
 
 /// A packet that begins with these bytes, and goes on with 0xFF.
@@ -18,11 +19,11 @@ fn packet_of_a_time_and_date_table_is_usable(rt: HostRuntime) {
     let Some(view) = read(&packet) else {
         panic!(rt; "usable");
     };
-    assert_eq!(rt; view.pid.get(), 0x14);
-    assert_eq!(rt; view.counter, 0);
+    same(&rt, &view.pid.get(), &0x14);
+    same(&rt, &view.counter, &0);
     assert!(rt; view.start);
-    assert_eq!(rt; view.pointed, 1);
-    assert_eq!(rt; view.payload.len(), 184);
+    same(&rt, &view.pointed, &1);
+    same(&rt, &view.payload.len(), &184);
 }
 
 #[test]
@@ -41,12 +42,16 @@ fn damaged_and_scrambled_packets_are_not_usable(rt: HostRuntime) {
 fn short_payload_stands_behind_an_adaptation_field(rt: HostRuntime) {
     let pid = Pid::new(0x1FFF).expect(&rt, "below 8192");
     let packet = write(pid, 15, false, b"\x01\x02");
-    assert_eq!(rt; &packet[0..6], [0x47, 0x1F, 0xFF, 0x3F, 181, 0].as_slice());
-    assert_eq!(rt; packet[185], 0xFF);
-    assert_eq!(rt; packet[186], 1);
+    same(
+        &rt,
+        &&packet[0..6],
+        &[0x47, 0x1F, 0xFF, 0x3F, 181, 0].as_slice(),
+    );
+    same(&rt, &packet[185], &0xFF);
+    same(&rt, &packet[186], &1);
     let Some(view) = read(&packet) else {
         panic!(rt; "usable");
     };
-    assert_eq!(rt; view.payload, b"\x01\x02".as_slice());
+    same(&rt, &view.payload, &b"\x01\x02".as_slice());
     assert!(rt; Pid::new(8192).is_none());
 }

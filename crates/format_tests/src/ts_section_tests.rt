@@ -1,5 +1,6 @@
 //! Sections cut into packets and heard again.
 
+use crate::check::same;
 use std::alloc::Global;
 use std::process::Abort;
 use std::test::Fail;
@@ -100,12 +101,12 @@ fn each_section_of_a_packet_is_heard(rt: HostRuntime) -> Result<(), Fail> {
     packet[5..13].copy_from_slice(&TDT);
     let turns = [Turn::Listen, Turn::Packet(0)];
     let one = heard(&rt, rt.alloc(), &packet, &turns)?;
-    assert_eq!(rt; one.as_slice(), TDT.as_slice());
+    same(&rt, &one.as_slice(), &TDT.as_slice());
     packet[13..21].copy_from_slice(&TDT);
     let two = heard(&rt, rt.alloc(), &packet, &turns)?;
-    assert_eq!(rt; two.len(), 16);
-    assert_eq!(rt; &two[..8], TDT.as_slice());
-    assert_eq!(rt; &two[8..], TDT.as_slice());
+    assert!(rt; two.len() == 16);
+    same(&rt, &&two[..8], &TDT.as_slice());
+    same(&rt, &&two[8..], &TDT.as_slice());
     Ok(())
 }
 
@@ -113,15 +114,16 @@ fn each_section_of_a_packet_is_heard(rt: HostRuntime) -> Result<(), Fail> {
 fn a_section_of_4096_bytes_is_heard_at_its_last_packet(rt: HostRuntime) -> Result<(), Fail> {
     let long = section(&rt, rt.alloc(), 4084, 3)?;
     let mut stream = Vec::new(rt.alloc());
-    assert_eq!(rt; put(&rt, &long, 12, &mut stream)?, 3);
-    assert_eq!(rt; stream.len(), 23 * 188);
+    same(&rt, &put(&rt, &long, 12, &mut stream)?, &3);
+    same(&rt, &stream.len(), &(23 * 188));
     let mut turns = vec![in rt.alloc(); Turn::Listen]?;
     packets(&mut turns, 0, 22)?;
-    assert_eq!(rt; heard(&rt, rt.alloc(), &stream, &turns)?.len(), 0);
+    same(&rt, &heard(&rt, rt.alloc(), &stream, &turns)?.len(), &0);
     turns.push(Turn::Packet(22))?;
-    assert_eq!(rt;
-        heard(&rt, rt.alloc(), &stream, &turns)?.as_slice(),
-        long.as_slice()
+    same(
+        &rt,
+        &heard(&rt, rt.alloc(), &stream, &turns)?.as_slice(),
+        &long.as_slice(),
     );
     Ok(())
 }
@@ -132,7 +134,7 @@ fn repeats_lost_packets_and_splices(rt: HostRuntime) -> Result<(), Fail> {
     let second = section(&rt, rt.alloc(), 100, 2)?;
     let mut stream = Vec::new(rt.alloc());
     let next = put(&rt, &first, 4, &mut stream)?;
-    assert_eq!(rt; next, 7);
+    same(&rt, &next, &7);
     put(&rt, &second, next, &mut stream)?;
     let mut both = Vec::from_slice(rt.alloc(), &first)?;
     both.extend_from_slice(&second)?;
@@ -145,9 +147,10 @@ fn repeats_lost_packets_and_splices(rt: HostRuntime) -> Result<(), Fail> {
         Turn::Packet(3),
         Turn::Packet(3),
     ];
-    assert_eq!(rt;
-        heard(&rt, rt.alloc(), &stream, &repeated)?.as_slice(),
-        both.as_slice()
+    same(
+        &rt,
+        &heard(&rt, rt.alloc(), &stream, &repeated)?.as_slice(),
+        &both.as_slice(),
     );
     let lost = [
         Turn::Listen,
@@ -155,9 +158,10 @@ fn repeats_lost_packets_and_splices(rt: HostRuntime) -> Result<(), Fail> {
         Turn::Packet(2),
         Turn::Packet(3),
     ];
-    assert_eq!(rt;
-        heard(&rt, rt.alloc(), &stream, &lost)?.as_slice(),
-        second.as_slice()
+    same(
+        &rt,
+        &heard(&rt, rt.alloc(), &stream, &lost)?.as_slice(),
+        &second.as_slice(),
     );
     let kept = [
         Turn::Listen,
@@ -166,9 +170,10 @@ fn repeats_lost_packets_and_splices(rt: HostRuntime) -> Result<(), Fail> {
         Turn::Packet(1),
         Turn::Packet(2),
     ];
-    assert_eq!(rt;
-        heard(&rt, rt.alloc(), &stream, &kept)?.as_slice(),
-        first.as_slice()
+    same(
+        &rt,
+        &heard(&rt, rt.alloc(), &stream, &kept)?.as_slice(),
+        &first.as_slice(),
     );
     let left = [
         Turn::Listen,
@@ -179,9 +184,10 @@ fn repeats_lost_packets_and_splices(rt: HostRuntime) -> Result<(), Fail> {
         Turn::Packet(2),
         Turn::Packet(3),
     ];
-    assert_eq!(rt;
-        heard(&rt, rt.alloc(), &stream, &left)?.as_slice(),
-        second.as_slice()
+    same(
+        &rt,
+        &heard(&rt, rt.alloc(), &stream, &left)?.as_slice(),
+        &second.as_slice(),
     );
     Ok(())
 }
@@ -194,6 +200,6 @@ fn the_crc_refuses_two_halves(rt: HostRuntime) -> Result<(), Fail> {
     let mut turns = vec![in rt.alloc(); Turn::Listen]?;
     packets(&mut turns, 0, 10)?;
     packets(&mut turns, 26, 46)?;
-    assert_eq!(rt; heard(&rt, rt.alloc(), &stream, &turns)?.len(), 0);
+    same(&rt, &heard(&rt, rt.alloc(), &stream, &turns)?.len(), &0);
     Ok(())
 }

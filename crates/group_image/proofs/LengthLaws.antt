@@ -10,7 +10,7 @@ use Rattle.ssu_group.specs.declared.module_plan.ModulePlan.{ModulePlan}
 use Rattle.ssu_group.specs.declared.places.Place.{Place}
 use Rattle.ssu_group.specs.declared.group_plan.GroupPlan.{GroupPlan}
 use Rattle.ssu_group.specs.Place.{place_at, IsPlace, is_module_of, block_place, place_of as place_of_block}
-use Rattle.ssu_group.specs.Carried.{bytes_at, brings, filling, missing_places, joined, carried_image}
+use Rattle.ssu_group.specs.Carried.{Fills, HaveLengths, bytes_at, brings, filling, missing_places, joined, carried_image}
 use Rattle.ssu_group.proofs.MapLaws.{all_marked}
 use Rattle.ssu_group.proofs.PlaceLaws.{fill_image, block_is_place}
 use Rattle.group_image.proofs.ImageLaws.{place_below, placed_len, some_place}
@@ -41,7 +41,7 @@ same_place p q e = cc
 abbrev pub HasLength : GroupPlan → ℕ → Option (List ℕ) → Type 0
 HasLength plan n o = (p : Place) (b : List ℕ) → place_at plan.block_size plan.modules.items n ≡ Some p → o ≡ Some b → length b ≡ p.len
 
-brought_len : (plan : GroupPlan) (n : ℕ) (section : List ℕ) → HasLength plan n (brings plan n section)
+pub brought_len : (plan : GroupPlan) (n : ℕ) (section : List ℕ) → HasLength plan n (brings plan n section)
 unfolding brings
 brought_len plan n section = by_block (ddb.of section)
   where
@@ -61,7 +61,7 @@ brought_len plan n section = by_block (ddb.of section)
     by_block None = λ p b at some. absurd cc
     by_block (Some d) = by_place d (place_of_block plan d) refl
 
-either_len : (plan : GroupPlan) (n : ℕ) (a b : Option (List ℕ)) → HasLength plan n a → HasLength plan n b → HasLength plan n (option_or a b)
+pub either_len : (plan : GroupPlan) (n : ℕ) (a b : Option (List ℕ)) → HasLength plan n a → HasLength plan n b → HasLength plan n (option_or a b)
 either_len plan n None b p q = q
 either_len plan n (Some x) b p q = p
 
@@ -115,7 +115,7 @@ value_of_bytes None h = absurd cc
 value_of_bytes (Some b) h = (b, refl)
 
 -- an image that is carried whole has the bytes of the plan
-pub carried_len : (plan : GroupPlan) (window : List (List ℕ)) → missing_places plan window ≡ 0 → length (carried_image plan window) ≡ plan.total
-carried_len plan window filled = joined_len plan (λ (n : ℕ). unwrap_or (filling plan window n) []) (λ n p at.
-    let some = value_of_bytes (filling plan window n) (all_marked (λ (k : ℕ). is_some (filling plan window k)) plan.places filled n (place_below plan n p at)) in
-    ap (λ (o : Option (List ℕ)). length (unwrap_or o [])) some.1 ∙ filling_len plan window n p some.0 at some.1)
+pub carried_len : (plan : GroupPlan) (fills : Fills) → HaveLengths plan fills → missing_places plan fills ≡ 0 → length (carried_image plan fills) ≡ plan.total
+carried_len plan fills long filled = joined_len plan (λ (n : ℕ). unwrap_or (fills n) []) (λ n p at.
+    let some = value_of_bytes (fills n) (all_marked (λ (k : ℕ). is_some (fills k)) plan.places filled n (place_below plan n p at)) in
+    ap (λ (o : Option (List ℕ)). length (unwrap_or o [])) some.1 ∙ long n p some.0 at some.1)

@@ -2,6 +2,7 @@
 
 ghost use Rattle.std.specs.Prelude.{◌≡◌, ◌<◌, ◌≤◌, length};
 
+use crate::check::same;
 use due_wheel::{Steps, Wheel};
 use std::alloc::Global;
 use std::marker::Brand;
@@ -43,8 +44,8 @@ fn ties_go_to_the_lesser_item(rt: HostRuntime) -> Result<(), Fail> {
     wheel.put(1, 5);
     wheel.put(2, 2);
     for (floor, taken) in TAKES {
-        assert_eq!(rt; wheel.floor(), floor);
-        assert_eq!(rt; take::<Brand>(&mut wheel, Blank::new(1)), taken);
+        same(&rt, &wheel.floor(), &floor);
+        same(&rt, &take::<Brand>(&mut wheel, Blank::new(1)), &taken);
     }
     Ok(())
 }
@@ -55,11 +56,11 @@ fn an_item_is_removed_between_two_others(rt: HostRuntime) -> Result<(), Fail> {
     wheel.put(0, 3);
     wheel.put(1, 7);
     wheel.put(2, 11);
-    assert_eq!(rt; wheel.remove(1), Some(7));
-    assert_eq!(rt; wheel.remove(1), None);
-    assert_eq!(rt; wheel.take_least(), Some((0, 3)));
-    assert_eq!(rt; wheel.take_least(), Some((2, 11)));
-    assert_eq!(rt; wheel.take_least(), None);
+    same(&rt, &wheel.remove(1), &Some(7));
+    same(&rt, &wheel.remove(1), &None);
+    same(&rt, &wheel.take_least(), &Some((0, 3)));
+    same(&rt, &wheel.take_least(), &Some((2, 11)));
+    same(&rt, &wheel.take_least(), &None);
     Ok(())
 }
 

@@ -1,5 +1,6 @@
 //! Plans of a few small files, their sections by number and first bytes, and plans that are too large.
 
+use crate::check::same;
 use head_carousel::{BuildFault, Timed, sections};
 use head_plan::Plan;
 use ssu_io::FileName;
@@ -58,13 +59,13 @@ fn a_plan_of_one_small_file_has_seven_sections(rt: HostRuntime) -> Result<(), Fa
         (258, 50, 0x3B, 60),
         (258, 8, 0x3C, 39),
     ];
-    assert_eq!(rt; list.len(), 7);
+    same(&rt, &list.len(), &7);
     for (section, row) in list.iter().zip(expected.iter()) {
         let (pid, period, table, length) = *row;
-        assert_eq!(rt; section.pid.get(), pid);
-        assert_eq!(rt; section.period, period);
-        assert_eq!(rt; section.bytes.first().copied(), Some(table));
-        assert_eq!(rt; section.bytes.len(), length);
+        same(&rt, &section.pid.get(), &pid);
+        same(&rt, &section.period, &period);
+        same(&rt, &section.bytes.first().copied(), &Some(table));
+        same(&rt, &section.bytes.len(), &length);
     }
     Ok(())
 }
@@ -82,9 +83,9 @@ fn an_announced_plan_has_a_bat_and_a_notification(rt: HostRuntime) -> Result<(),
     let tables = [
         0x40, 0x4A, 0x00, 0x70, 0x02, 0x4B, 0x3B, 0x3B, 0x3C, 0x3C, 0x3C, 0x3C,
     ];
-    assert_eq!(rt; list.len(), tables.len());
+    same(&rt, &list.len(), &tables.len());
     for (section, table) in list.iter().zip(tables.iter()) {
-        assert_eq!(rt; section.bytes.first(), Some(table));
+        same(&rt, &section.bytes.first(), &Some(table));
     }
     Ok(())
 }
@@ -99,7 +100,7 @@ fn four_megabytes_in_three_files_are_1040_sections(rt: HostRuntime) -> Result<()
     )?;
     let images = files(alloc, &[2_000_000, 2_000_000, 194_304])?;
     let list = built(&rt, alloc, &plan, &images).map_err(|_| "refused")?;
-    assert_eq!(rt; list.len(), 7 + 492 + 492 + 48);
+    same(&rt, &list.len(), &(7 + 492 + 492 + 48));
     Ok(())
 }
 
@@ -126,7 +127,7 @@ fn the_first_file_of_too_many_blocks_is_named(rt: HostRuntime) -> Result<(), Fai
     )?;
     let images = files(alloc, &[65_536, 65_537, 65_538])?;
     let name = too_long(&rt, alloc, &plan, &images)?;
-    assert_eq!(rt; name.as_str(), "b.bin");
+    same(&rt, &name.as_str(), &"b.bin");
     Ok(())
 }
 
@@ -143,7 +144,7 @@ fn sixteen_files_of_17_000_000_bytes_are_too_many_sections(rt: HostRuntime) -> R
         images.push(file.clone()?)?;
     }
     match built(&rt, alloc, &plan, &images) {
-        Err(BuildFault::TooManySections(count)) => assert_eq!(rt; count, 66_918),
+        Err(BuildFault::TooManySections(count)) => same(&rt, &count, &66_918),
         _ => return Err("not refused for its sections".into()),
     }
     Ok(())

@@ -4,6 +4,7 @@ ghost use Rattle.std.specs.Prelude.{◌≡◌, IsTrue};
 ghost use Rattle.std.specs.List.{All};
 ghost use Rattle.head_mux.specs.Sent.{IsSendable};
 
+use crate::check::same;
 use head_mux::{MuxFault, mux};
 use ssu_io::MemSink;
 use std::alloc::Global;
@@ -134,12 +135,12 @@ fn each_section_comes_again_after_its_period(rt: HostRuntime) -> Result<(), Fail
     list.push(timed(&rt, alloc, 0x100, 3, &LONG)?)?;
     list.push(timed(&rt, alloc, 0x101, 5, &OTHER)?)?;
     let mut sink = MemSink::new(alloc, Vec::new(alloc));
-    assert_eq!(rt; sent(&rt, alloc, &list, 12, &mut sink), Ok(16));
+    same(&rt, &sent(&rt, alloc, &list, 12, &mut sink), &Ok(16));
     let mut packets = Vec::new(alloc);
     for (shape, counter) in &TWELVE_TURNS {
         append_shape(&mut packets, *shape, *counter)?;
     }
-    assert_eq!(rt; sink.bytes(), packets.as_slice());
+    same(&rt, &sink.bytes(), &packets.as_slice());
     Ok(())
 }
 
@@ -149,10 +150,11 @@ fn a_sink_that_fails_at_its_second_call_got_the_first_piece(rt: HostRuntime) -> 
     let mut list = Vec::new(alloc);
     list.push(timed(&rt, alloc, 0x100, 1, &[0x40; 4096])?)?;
     let mut sink = MemSink::new(alloc, vec![in alloc; 2]?);
-    assert_eq!(rt;
-        sent(&rt, alloc, &list, 20, &mut sink),
-        Err(MuxFault::WriteFault)
+    same(
+        &rt,
+        &sent(&rt, alloc, &list, 20, &mut sink),
+        &Err(MuxFault::WriteFault),
     );
-    assert_eq!(rt; sink.bytes().len(), 348 * 188);
+    same(&rt, &sink.bytes().len(), &(348 * 188));
     Ok(())
 }

@@ -1,5 +1,6 @@
 //! A whole `plan.toml`, the first bad field of others, and the files that its groups mention.
 
+use crate::check::same;
 use head_plan::{FieldName, Plan, PlanFault};
 use std::alloc::Global;
 use std::test::Fail;
@@ -24,16 +25,17 @@ fn a_plan_is_read(rt: HostRuntime) -> Result<(), Fail> {
     let more = "turns = 7\ncolour = \"red\"\n";
     let text = format!(in rt.alloc(); "{START}{more}{GROUP}{GROUP}")?;
     let plan = Plan::read(rt.alloc(), text.as_bytes())?;
-    assert_eq!(rt; (plan.ts, plan.network, plan.service), (1, 2, 3));
+    same(&rt, &(plan.ts, plan.network, plan.service), &(1, 2, 3));
     assert!(rt; plan.bouquet.is_none() && plan.notice_pid.is_none() && plan.schedule.is_none());
-    assert_eq!(rt; plan.oui.get(), 4660);
-    assert_eq!(rt; (plan.time.mjd, plan.time.second), (60370, 7200));
-    assert_eq!(rt; (plan.pmt_pid.get(), plan.data_pid.get()), (256, 258));
-    assert_eq!(rt;
-        (plan.signal_period, plan.turns, plan.manual),
-        (50, 7, false)
+    same(&rt, &plan.oui.get(), &4660);
+    same(&rt, &(plan.time.mjd, plan.time.second), &(60370, 7200));
+    same(&rt, &(plan.pmt_pid.get(), plan.data_pid.get()), &(256, 258));
+    same(
+        &rt,
+        &(plan.signal_period, plan.turns, plan.manual),
+        &(50, 7, false),
     );
-    assert_eq!(rt; plan.file_count(), 4);
+    same(&rt, &plan.file_count(), &4);
     Ok(())
 }
 
@@ -84,7 +86,7 @@ fn a_bad_group_is_named_by_its_number(rt: HostRuntime) -> Result<(), Fail> {
 fn files_are_counted_by_mention(rt: HostRuntime) -> Result<(), Fail> {
     let text = format!(in rt.alloc(); "{START}turns = 7\n{GROUP}{GROUP}")?;
     let plan = Plan::read(rt.alloc(), text.as_bytes())?;
-    assert_eq!(rt; plan.file_count(), 4);
+    assert!(rt; plan.file_count() == 4);
     assert!(rt; plan.file(0).as_str() == "a.bin");
     assert!(rt; plan.file(1).as_str() == "b.bin");
     assert!(rt; plan.file(3).as_str() == "b.bin");

@@ -2,6 +2,8 @@
 #![tactic(auto)]
 
 #[cfg(test)]
+mod check;
+#[cfg(test)]
 mod due_wheel_tests;
 #[cfg(test)]
 mod head_carousel_tests;

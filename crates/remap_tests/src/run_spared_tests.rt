@@ -120,7 +120,18 @@ fn packets_of(alloc: Global) -> Result<Vec<u8>, Fail> {
     Ok(built.made)
 }
 
-// The erase of the fourth block of the bank fails, and a spare takes its place.
+/// How many replacements a flash with 4 spares has left.
+fn left_of(flash: MemFlash) -> Result<(MemFlash, u32), Fail> {
+    match Remap::open(flash, 4) {
+        Ok(remap) => {
+            let left = remap.left();
+            Ok((remap.into_inner(), left))
+        }
+        Err(_) => Err("it is not opened".into()),
+    }
+}
+
+// The erase of the fourth block of the bank fails, and a spare takes its place. `format` begins the map anew.
 #[test]
 fn an_update_is_installed_past_a_failing_block(rt: HostRuntime) -> Result<(), Fail> {
     let alloc = rt.alloc();
@@ -134,10 +145,12 @@ fn an_update_is_installed_past_a_failing_block(rt: HostRuntime) -> Result<(), Fa
     let booted = outcome_on(alloc, &["boot", "spares", "4"], &[], replayed.flash)?;
     assert_eq!(rt; booted.status.code(), 0);
     assert_eq!(rt; booted.made.as_slice(), file(alloc)?.as_slice());
-    match Remap::open(booted.flash, 4) {
-        Ok(remap) => assert_eq!(rt; (remap.left(), remap.is_worn()), (3, false)),
-        Err(_) => return Err("it is not opened".into()),
-    }
+    let (used, left) = left_of(booted.flash)?;
+    assert!(rt; left == 3);
+    let formatted = outcome_on(alloc, &["format", "old.bin", "spares", "4"], &[], used)?;
+    assert!(rt; formatted.status.code() == 0);
+    let (_, left) = left_of(formatted.flash)?;
+    assert!(rt; left == 4);
     Ok(())
 }
 
@@ -161,10 +174,11 @@ fn a_flash_without_spares_left_fails_and_boots_as_before(rt: HostRuntime) -> Res
 }
 
 /// (the words behind the folder, the status over a flash of 27 blocks 255, the file that they make)
-const WORDS: [(&[&str], u8, &str); 9] = [
+const WORDS: [(&[&str], u8, &str); 10] = [
     (&["boot", "spares", "4"], 5, "image.bin"),
     (&["boot", "spares", "23"], 17, "image.bin"),
     (&["replay", "spares", "4"], 5, ""),
+    (&["migrate", "spares", "4"], 5, ""),
     (&["format", "none.bin", "spares", "4"], 9, ""),
     (&["boot", "spares", "0"], 2, ""),
     (&["boot", "spares", "256"], 2, ""),

@@ -1,4 +1,5 @@
-//! Each call of a run fails in turn: the files and outputs of every command. Each loop goes on until the run does not meet the call, and so ends by itself.
+//! Each call of a run fails in turn: the flash at each erase, program and read, and the files and outputs of every command. Each
+//! loop goes on until the run does not meet the call, and so ends by itself.
 
 use flash_bank::{boot, format};
 use flash_dev::{MemFlash, Tear};
@@ -54,9 +55,11 @@ enum Object {
     Out,
 }
 
-/// How a call fails.
+/// How the call of one number fails.
 #[derive(Clone, Copy, PartialEq, Eq)]
 enum Harm {
+    /// No call fails.
+    None,
     /// The erase or program of the flash fails and leaves this.
     Fails(Tear),
     /// The same, and so does each call of the flash after it.
@@ -67,10 +70,13 @@ enum Harm {
     Of(Object),
 }
 
-/// The call of an object that fails, from 1. It is 0, and no call fails, where another object's call does.
+/// The calls of an object that fail: this one, where the harm is to that object.
 fn failing(alloc: Global, object: Object, harm: Harm, call: u32) -> Result<Vec<u32>, Fail> {
-    let number = if harm == Harm::Of(object) { call } else { 0 };
-    Ok([number].to_vec(alloc)?)
+    let mut calls = Vec::new(alloc);
+    if harm == Harm::Of(object) {
+        calls.push(call)?;
+    }
+    Ok(calls)
 }
 
 /// A shelf with all that a command wants.
@@ -116,7 +122,7 @@ struct Outcome {
     held: Vec<u8>,
 }
 
-/// Runs a command over a flash with these contents, where the call of this number fails. At 0 none does.
+/// Runs a command over a flash with these contents, where the call of this number, from 1, is harmed.
 fn outcome_of(
     alloc: Global,
     command: &[&str],
@@ -135,7 +141,7 @@ fn outcome_of(
         Harm::Fails(tear) => flash.fail_at(call, tear)?,
         Harm::Stops(tear) => flash.stop_at(call, tear),
         Harm::FailsToRead => flash.fail_read(call)?,
-        Harm::Of(_) => {}
+        Harm::None | Harm::Of(_) => {}
     }
     let mut shelf = shelf_of(alloc, failing(alloc, Object::Shelf, harm, call)?)?;
     let air_fails = failing(alloc, Object::Air, harm, call)?;
@@ -156,7 +162,7 @@ fn outcome_of(
 /// The packets of the plan.
 fn packets(alloc: Global) -> Result<Vec<u8>, Fail> {
     let held = formatted(alloc)?;
-    let built = outcome_of(alloc, &["build"], &[], &held, Harm::FailsToRead, 0)?;
+    let built = outcome_of(alloc, &["build"], &[], &held, Harm::None, 1)?;
     if built.status != Status::Done {
         return Err("it is not built".into());
     }
@@ -177,6 +183,47 @@ fn boots_new(alloc: Global, held: &[u8]) -> Result<bool, Fail> {
     Err("neither the old image nor the whole new one".into())
 }
 
+/// Replays with each call of the flash harmed in turn. Boot takes the old image or the whole new one, the new one only after the
+/// last call, and a second replay installs, since the rule of the box admits what runs too. Answers how many calls there were.
+fn sweep(rt: &impl Abort, alloc: Global, air: &[u8], harm: Harm) -> Result<u32, Fail> {
+    let start = formatted(alloc)?;
+    let mut is_new = false;
+    for call in 1..MOST {
+        let outcome = outcome_of(alloc, &["replay"], air, &start, harm, call)?;
+        if matches!(outcome.status, Status::Installed(_)) {
+            assert!(rt; boots_new(alloc, &outcome.held)?);
+            return Ok(call - 1);
+        }
+        assert_eq!(rt; outcome.status, Status::FlashFault);
+        assert!(rt; outcome.put.is_empty());
+        // the new image was there one call ago, so that was the last one
+        assert!(rt; !is_new);
+        is_new = boots_new(alloc, &outcome.held)?;
+        let again = outcome_of(alloc, &["replay"], air, &outcome.held, Harm::None, 1)?;
+        assert!(rt; matches!(again.status, Status::Installed(_)));
+        assert!(rt; boots_new(alloc, &again.held)?);
+    }
+    Err("more calls".into())
+}
+
+#[test]
+fn each_call_of_the_flash_fails_in_turn(rt: HostRuntime) -> Result<(), Fail> {
+    let alloc = rt.alloc();
+    let air = packets(alloc)?;
+    // An erase of the record block and of ten blocks of the bank, at least 79 pieces of 256 bytes at most, and the record; as many
+    // pieces that are read back.
+    for (harm, calls) in [
+        (Harm::Fails(Tear::Front(0)), 91),
+        (Harm::Stops(Tear::Front(0)), 91),
+        (Harm::Stops(Tear::Front(100)), 91),
+        (Harm::Stops(Tear::Drift(90)), 91),
+        (Harm::FailsToRead, 79),
+    ] {
+        assert!(rt; sweep(&rt, alloc, &air, harm)? >= calls);
+    }
+    Ok(())
+}
+
 /// Runs the command with each call of an object failing in turn. Each answer is the fault, until the command does not meet the
 /// call. What is put and printed is a front of what it puts and prints then, and boot takes the old image or the whole new one.
 fn each_fails(
@@ -189,7 +236,7 @@ fn each_fails(
 ) -> Result<(), Fail> {
     let start = formatted(alloc)?;
     let harm = Harm::Of(object);
-    let whole = outcome_of(alloc, command, air, &start, harm, 0)?;
+    let whole = outcome_of(alloc, command, air, &start, Harm::None, 1)?;
     for call in 1..MOST {
         let outcome = outcome_of(alloc, command, air, &start, harm, call)?;
         assert!(rt; whole.made.starts_with(&outcome.made));

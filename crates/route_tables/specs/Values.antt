@@ -5,12 +5,23 @@ use Rattle.si_desc.specs.declared.linkages.ServiceRef.{ServiceRef}
 use Rattle.ssu_compat.specs.declared.rule.SwId.{SwId}
 use Rattle.ssu_unt.specs.Targeting.{TargetFields}
 
--- A set-top box that listens: what its box file says, the length of the bank that an image must fit in, and the software
--- that runs.
+-- What a replay finds in a flash of a group that was begun and not finished: the most places of a group that is kept there, if
+-- any is kept; the message of its DII, and the bytes of the places that are there, by their numbers.
+pub record Opening : Type 0 where
+  pub most : Option ℕ
+  pub message : Option (List ℕ)
+  pub staged : ℕ → Option (List ℕ)
+
+abbrev pub nothing_open : Opening
+nothing_open = record { most = None; message = None; staged = λ n. None }
+
+-- A set-top box that listens: what its box file says, the length of the bank that an image must fit in, the software
+-- that runs, and what its flash had kept at the opening.
 pub record Receiver : Type 0 where
   pub file : BoxFile
   pub bank_len : ℕ
   pub running : SwId
+  pub opening : Opening
 
 -- A service, and the PID of the PMT of its program.
 pub record ProgramFound : Type 0 where

@@ -25,13 +25,14 @@ const HELP: &str = "usage: ssu FOLDER COMMAND ARGUMENTS
   blank N       makes flash.bin, a blank flash of N blocks of 4096 bytes, 4 to 65536
   format FILE   formats flash.bin with the image in FILE and the software in box.toml
   boot          takes the image that boot takes in flash.bin into image.bin
+  migrate       gives flash.bin layout 2, which has room for a journal, and keeps its image
   replay        replays air.ts to the loader of the box in box.toml, which installs an update in flash.bin
   air           puts the packets of air.ts through the script in script.toml into aired.ts
   audit PID     checks the carousel on the PID in air.ts: whether all that have a group whole have one image of it
   audit PID N   the same, with its notice on PID N
   sample N      makes a broadcast of a number, 0 to 999999, and replays it to a box, all in memory
 
-format, boot and replay may end in `spares S`, with S from 1 to 255: S blocks of flash.bin are spares for failing ones, and one more
+format, boot, migrate and replay may end in `spares S`, with S from 1 to 255: S blocks of flash.bin are spares for failing ones, and one more
 is their map. The number is stored nowhere: give the same one each time. format forgets all replacements.
 
 Exit codes: 0 done or installed, 2 wrong words, 3 box.toml refused, 4 plan refused, 5 flash is foreign, 6 nothing found,
@@ -165,7 +166,7 @@ fn flash_of<R: Files + AllocGlobal>(
     command: Option<Command>,
 ) -> FileFlash<'_, R> {
     match command {
-        Some(Command::Format(_) | Command::Replay) => FileFlash::new(rt, path),
+        Some(Command::Format(_) | Command::Migrate | Command::Replay) => FileFlash::new(rt, path),
         Some(Command::Boot) if is_pipe(rt, &path) => FileFlash::new(rt, path),
         Some(Command::Boot) => FileFlash::read_only(rt, path),
         _ => FileFlash::read_only(rt, String::new(rt.alloc())),

@@ -11,6 +11,7 @@ use Rattle.ssu_group.specs.Carried.{brings, carried_image, crc_is, filling, is_r
 use Rattle.ssu_group.specs.Map.{missing_below}
 use Rattle.ssu_group.specs.Place.{block_length}
 use Rattle.ssu_group.specs.Plan.{are_joined, block_count}
+use Rattle.group_image.proofs.LengthLaws.{filling_len}
 use Rattle.ssu_group.proofs.Filling.{filling-none, filling-step}
 use Rattle.ssu_group.proofs.PlaceLaws.{begin_joined}
 use Rattle.flash_stage.proofs.TextLaws.{carried_module, joined_same}
@@ -178,15 +179,15 @@ module _ (plan : GroupPlan) (calls : List Call) (undecided : IsOpen calls) where
       plain None = refl
       plain (Some x) = ap (λ (n : ℕ). some_number n) (let same : 0 + x ≡ x = omega arith in same)
 
-  text_is : (m : ModulePlan) → Contains plan.modules.items m → missing_places plan sections ≡ 0 → module_bytes (carried_image plan sections) m ≡ text_of kept plan m
+  text_is : (m : ModulePlan) → Contains plan.modules.items m → missing_places plan (filling plan sections) ≡ 0 → module_bytes (carried_image plan (filling plan sections)) m ≡ text_of kept plan m
   text_is m among whole =
-      carried_module plan sections m whole among
+      carried_module plan (filling plan sections) m (filling_len plan sections) whole among
       ∙ joined_same (λ k. unwrap_or (filling plan sections (m.first + k)) []) (λ k. unwrap_or (text_at kept plan m k) []) m.blocks
       (λ k lt. ap (λ (o : Option (List ℕ)). unwrap_or o []) (fills_text plan m k among lt calls undecided))
 
-  pub wrong_is : missing_places plan sections ≡ 0 → wrong_of kept plan plan.modules.items ≡ wrong_module plan.modules.items (carried_image plan sections)
+  pub wrong_is : missing_places plan (filling plan sections) ≡ 0 → wrong_of kept plan plan.modules.items ≡ wrong_module plan.modules.items (carried_image plan (filling plan sections))
   unfolding wrong_module
-  wrong_is whole = finds_same (is_wrong kept plan) (λ m. not (is_right (carried_image plan sections) m)) plan.modules.items
+  wrong_is whole = finds_same (is_wrong kept plan) (λ m. not (is_right (carried_image plan (filling plan sections)) m)) plan.modules.items
       (λ m among. ap (λ (xs : List ℕ). not (crc_is xs m.crc)) (sym (text_is m among whole)))
 
   pub against_is : (group size : ℕ) → against_kept group size plan kept ≡ against_plan group size plan sections
@@ -196,6 +197,6 @@ module _ (plan : GroupPlan) (calls : List Call) (undecided : IsOpen calls) where
     where
       by_missing : (o : Option ℕ) → first_missing plan sections ≡ o
           → option_or (place_missing group o) (bad_module group (wrong_of kept plan plan.modules.items))
-          ≡ option_or (place_missing group o) (bad_module group (wrong_module plan.modules.items (carried_image plan sections)))
+          ≡ option_or (place_missing group o) (bad_module group (wrong_module plan.modules.items (carried_image plan (filling plan sections))))
       by_missing (Some place) e = refl
       by_missing None e = ap (bad_module group) (wrong_is (none_missing (λ n. is_some (filling plan sections n)) plan.places e))

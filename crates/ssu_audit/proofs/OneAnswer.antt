@@ -24,7 +24,7 @@ sized group size total = cond (eqb size total) None (Some (SizeDiffers group siz
 
 -- ---- plans of one DII
 
-pub same_image : (p q : GroupPlan) (sections : List (List ℕ)) → IsSamePlan p q → carried_image p sections ≡ carried_image q sections
+pub same_image : (p q : GroupPlan) (sections : List (List ℕ)) → IsSamePlan p q → carried_image p (filling p sections) ≡ carried_image q (filling q sections)
 same_image p q sections s =
     joined_same (λ n. unwrap_or (filling p sections n) []) (λ n. unwrap_or (filling q sections n) []) p.places
     (λ n lt. ap (λ (o : Option (List ℕ)). unwrap_or o []) (same_filling p q sections n s))
@@ -38,9 +38,9 @@ same_first p q sections s =
 
 same_against : (group size : ℕ) (p q : GroupPlan) (sections : List (List ℕ)) → IsSamePlan p q → against_plan group size p sections ≡ against_plan group size q sections
 same_against group size p q sections s =
-    ap (λ (o : Option AuditNo). option_or o (option_or (place_missing group (first_missing p sections)) (bad_module group (wrong_module p.modules.items (carried_image p sections))))) (same_size s.total)
-    ∙ ap (λ (o : Option ℕ). option_or (size_differs group size q) (option_or (place_missing group o) (bad_module group (wrong_module p.modules.items (carried_image p sections))))) (same_first p q sections s)
-    ∙ ap (λ (ms : List ModulePlan). option_or (size_differs group size q) (option_or (place_missing group (first_missing q sections)) (bad_module group (wrong_module ms (carried_image p sections))))) s.modules
+    ap (λ (o : Option AuditNo). option_or o (option_or (place_missing group (first_missing p sections)) (bad_module group (wrong_module p.modules.items (carried_image p (filling p sections)))))) (same_size s.total)
+    ∙ ap (λ (o : Option ℕ). option_or (size_differs group size q) (option_or (place_missing group o) (bad_module group (wrong_module p.modules.items (carried_image p (filling p sections)))))) (same_first p q sections s)
+    ∙ ap (λ (ms : List ModulePlan). option_or (size_differs group size q) (option_or (place_missing group (first_missing q sections)) (bad_module group (wrong_module ms (carried_image p (filling p sections)))))) s.modules
     ∙ ap (λ (image : List ℕ). option_or (size_differs group size q) (option_or (place_missing group (first_missing q sections)) (bad_module group (wrong_module q.modules.items image)))) (same_image p q sections s)
   where
     same_size : p.total ≡ q.total → size_differs group size p ≡ size_differs group size q

@@ -137,7 +137,7 @@ pub record Carried (calls : List Call) (group : ℕ) : Type 0 where
   pub is_first : first_dii group calls ≡ Some first
   pub plan : GroupPlan
   pub is_plan : IsPlanOf first.1 plan
-  pub carries : CarriesWhole plan (carousel calls) (carried_image plan (carousel calls))
+  pub carries : CarriesWhole plan (filling plan (carousel calls)) (carried_image plan (filling plan (carousel calls)))
 
 carried_of : (calls : List Call) (group size : ℕ) → AgainstGroup calls group size None → Carried calls group
 carried_of calls group size against = by_first (first_dii group calls) refl against
@@ -149,10 +149,10 @@ carried_of calls group size against = by_first (first_dii group calls) refl agai
         let plan = a.1.0 in
         let sections = carousel calls in
         let none = a.1.1.1 in
-        let later = or_second (size_differs group size plan) (option_or (place_missing group (first_missing plan sections)) (bad_module group (wrong_module plan.modules.items (carried_image plan sections)))) none in
-        let places = mapped_none _ (first_missing plan sections) (or_first (place_missing group (first_missing plan sections)) (bad_module group (wrong_module plan.modules.items (carried_image plan sections))) later) in
-        let modules = mapped_none _ (wrong_module plan.modules.items (carried_image plan sections))
-        (sym (or_second (place_missing group (first_missing plan sections)) (bad_module group (wrong_module plan.modules.items (carried_image plan sections))) later)) in
+        let later = or_second (size_differs group size plan) (option_or (place_missing group (first_missing plan sections)) (bad_module group (wrong_module plan.modules.items (carried_image plan (filling plan sections))))) none in
+        let places = mapped_none _ (first_missing plan sections) (or_first (place_missing group (first_missing plan sections)) (bad_module group (wrong_module plan.modules.items (carried_image plan (filling plan sections)))) later) in
+        let modules = mapped_none _ (wrong_module plan.modules.items (carried_image plan (filling plan sections)))
+        (sym (or_second (place_missing group (first_missing plan sections)) (bad_module group (wrong_module plan.modules.items (carried_image plan (filling plan sections)))) later)) in
         record {
           first = first;
           is_first = f;
@@ -165,7 +165,7 @@ carried_of calls group size against = by_first (first_dii group calls) refl agai
           };
         }
 
-has_one : (calls : List Call) → IsOpen calls → (group : ℕ) (c : Carried calls group) → HasOneImage (carousel calls) c.first.1 (carried_image c.plan (carousel calls))
+has_one : (calls : List Call) → IsOpen calls → (group : ℕ) (c : Carried calls group) → HasOneImage (carousel calls) c.first.1 (carried_image c.plan (filling c.plan (carousel calls)))
 has_one calls undecided group c = record {
   plan = c.plan;
   is_plan = c.is_plan;
@@ -184,7 +184,7 @@ has_one calls undecided group c = record {
       ∙ ap (joined (λ n. unwrap_or (filling c.plan (carousel calls) n) [])) s.places;
 }
 
-group_has : (calls : List Call) → IsOpen calls → (group : ℕ) (c : Carried calls group) → GroupHasOneImage (carousel calls) group (carried_image c.plan (carousel calls))
+group_has : (calls : List Call) → IsOpen calls → (group : ℕ) (c : Carried calls group) → GroupHasOneImage (carousel calls) group (carried_image c.plan (filling c.plan (carousel calls)))
 group_has calls undecided group c =
     let from = comes (dii_of_group group) calls c.first c.is_first in
     record {
@@ -198,7 +198,7 @@ group_has calls undecided group c =
           let is_first = c.is_first in
           let both : (f.number, other_dii) ≡ c.first = cc in
           let same : other_dii ≡ c.first.1 = ap (λ (x : ℕ × DiiFields). x.1) both in
-          subst (λ (d : DiiFields). HasOneImage (carousel calls) d (carried_image c.plan (carousel calls))) (sym same) (has_one calls undecided group c);
+          subst (λ (d : DiiFields). HasOneImage (carousel calls) d (carried_image c.plan (filling c.plan (carousel calls)))) (sym same) (has_one calls undecided group c);
     }
 
 -- ---- all groups
@@ -253,7 +253,7 @@ heard_first calls d first =
     record { section = from.section; there = from.heard; read = ap (λ (s : List ℕ). dsi.of s) said.0 ∙ first.read }
 
 group_image : (calls : List Call) → IsOpen calls → (group : ℕ) → Carried calls group → (image : List ℕ) × GroupHasOneImage (carousel calls) group image
-group_image calls undecided group c = (carried_image c.plan (carousel calls), group_has calls undecided group c)
+group_image calls undecided group c = (carried_image c.plan (filling c.plan (carousel calls)), group_has calls undecided group c)
 
 of_concluded : (calls : List Call) → IsOpen calls → Concluded calls → HasOneImagePerGroup (carousel calls)
 of_concluded calls undecided c =

@@ -46,7 +46,7 @@ abbrev pub against_plan : ℕ → ℕ → GroupPlan → List (List ℕ) → Opti
 against_plan group size plan sections =
     option_or (size_differs group size plan) (
     option_or (place_missing group (first_missing plan sections)) (
-    bad_module group (wrong_module plan.modules.items (carried_image plan sections))))
+    bad_module group (wrong_module plan.modules.items (carried_image plan (filling plan sections)))))
 
 -- This is the plan of the DII, and this stands against it.
 abbrev pub AgainstPlan : ℕ → ℕ → List (List ℕ) → DiiFields → Option AuditNo → Type 0

@@ -2,7 +2,7 @@
 -- same image of a group, or none. Lists of sections have the newest first.
 use Rattle.std.specs.Prelude.{◌≡◌, ℕ, Contains, List, Some}
 use Rattle.dsmcc_msg.specs.Control.{DiiFields, DsiFields, GroupFields, dsi}
-use Rattle.ssu_group.specs.Carried.{CarriesWhole}
+use Rattle.ssu_group.specs.Carried.{CarriesWhole, filling}
 use Rattle.ssu_group.specs.Lays.{IsPlanOf}
 use Rattle.ssu_group.specs.declared.group_plan.GroupPlan.{GroupPlan}
 use Rattle.ssu_audit.specs.Said.{dii_of_group}
@@ -16,9 +16,9 @@ AreAmong heard list = (section : List ℕ) → Contains list section → Contain
 pub record HasOneImage (heard : List (List ℕ)) (dii : DiiFields) (image : List ℕ) : Type 0 where
   pub plan : GroupPlan
   pub is_plan : IsPlanOf dii plan
-  pub carries : CarriesWhole plan heard image
+  pub carries : CarriesWhole plan (filling plan heard) image
   pub one : (list : List (List ℕ)) (other_plan : GroupPlan) (other : List ℕ) → AreAmong heard list
-      → IsPlanOf dii other_plan → CarriesWhole other_plan list other → other ≡ image
+      → IsPlanOf dii other_plan → CarriesWhole other_plan (filling other_plan list) other → other ≡ image
 
 -- A DII of the group was heard, and under each that was heard the group has this one image.
 pub record GroupHasOneImage (heard : List (List ℕ)) (group : ℕ) (image : List ℕ) : Type 0 where

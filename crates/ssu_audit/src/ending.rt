@@ -73,8 +73,8 @@ fn is_notice_apart(section: &[u8], dsi: &Dsi<'_>) -> bool
 }
 
 impl Audit {
-    /// Whether every receiver of what was heard makes one image of each group, or the first fact against that. It takes no
-    /// memory.
+    /// Whether all receivers of some of what was heard that have a group whole have one image of it, or the first fact for
+    /// which that is refused. It takes no memory.
     ///
     /// # Errors
     ///
@@ -88,7 +88,8 @@ impl Audit {
         // The answer is that of the calls, and no other is.
         ensures ends { (calls : List Call) → Stands calls self.now → Ends calls result }
         ensures only { (calls : List Call) (other : Result AuditYes AuditNo) → Stands calls self.now → Ends calls other → result ≡ other }
-        // A yes holds for every receiver of what was heard of the carousel.
+        // At a yes all that was heard of the carousel carries each group whole, and each part of it that carries a group whole
+        // carries the same image.
         ensures one_image { (calls : List Call) → Stands calls self.now → IfOk result (λ _. HasOneImagePerGroup (carousel calls)) }
     {
         self.answer()

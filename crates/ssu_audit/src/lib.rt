@@ -1,5 +1,5 @@
-//! A check of the sections of one carousel: whether every receiver that hears some of them, in whatever order, makes the
-//! same image of each group. ETSI TS 102 006; ETSI EN 301 192, 8.1; ISO/IEC 13818-6, 7.3.
+//! A check of the sections of one carousel: whether all receivers that hear some of them, in whatever order, and have a group
+//! whole by those, have the same image of it. ETSI TS 102 006; ETSI EN 301 192, 8.1; ISO/IEC 13818-6, 7.3.
 #![tactic(auto)]
 
 mod against;

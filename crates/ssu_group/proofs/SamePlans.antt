@@ -13,7 +13,7 @@ use Rattle.ssu_group.specs.Plan.{block_count, size_of}
 use Rattle.ssu_group.specs.Place.{place_of, block_place, is_module_of}
 use Rattle.ssu_group.specs.Lays.{IsPlanOf}
 use Rattle.ssu_group.specs.Map.{missing_below}
-use Rattle.ssu_group.specs.Carried.{bytes_at, brings, filling, missing_places}
+use Rattle.ssu_group.specs.Carried.{Fills, bytes_at, brings, filling, missing_places}
 use Rattle.ssu_group.proofs.MapLaws.{missing_same}
 
 pub record IsSamePlan (a b : GroupPlan) : Type 0 where
@@ -50,7 +50,7 @@ same_place a b d s =
     ∙ ap (λ (ms : List ModulePlan). place_by b.download b.block_size ms d) s.modules
     ∙ sym (place_is b d)
 
-same_brings : (a b : GroupPlan) (n : ℕ) (section : List ℕ) → IsSamePlan a b → brings a n section ≡ brings b n section
+pub same_brings : (a b : GroupPlan) (n : ℕ) (section : List ℕ) → IsSamePlan a b → brings a n section ≡ brings b n section
 unfolding brings
 same_brings a b n section s = by_block (ddb.of section)
   where
@@ -67,7 +67,7 @@ same_filling a b (section ∷ window) n s =
     ∙ ap (λ (o : Option (List ℕ)). option_or (filling b window n) o) (same_brings a b n section s)
     ∙ sym (first_said-step (brings b n) section window)
 
-pub same_missing : (a b : GroupPlan) (window : List (List ℕ)) → IsSamePlan a b → missing_places a window ≡ missing_places b window
-same_missing a b window s =
-    missing_same (λ n. is_some (filling b window n)) (λ n. is_some (filling a window n)) a.places (λ n below. ap is_some (same_filling a b window n s))
-    ∙ ap (λ (n : ℕ). missing_below (λ (k : ℕ). is_some (filling b window k)) n) s.places
+pub same_missing : (a b : GroupPlan) (f g : Fills) → IsSamePlan a b → ((n : ℕ) → f n ≡ g n) → missing_places a f ≡ missing_places b g
+same_missing a b f g s same =
+    missing_same (λ n. is_some (g n)) (λ n. is_some (f n)) a.places (λ n below. ap is_some (same n))
+    ∙ ap (λ (n : ℕ). missing_below (λ (k : ℕ). is_some (g k)) n) s.places

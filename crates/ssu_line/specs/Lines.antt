@@ -73,6 +73,14 @@ blank_line blocks = codes "blank " ++ decimal blocks ++ codes "\n"
 abbrev pub formatted_line : ℕ → List ℕ
 formatted_line bytes = codes "formatted bytes " ++ decimal bytes ++ codes "\n"
 
+-- migrated bytes L number N
+abbrev pub migrated_line : ℕ → ℕ → List ℕ
+migrated_line bytes number = codes "migrated bytes " ++ decimal bytes ++ codes " number " ++ decimal number ++ codes "\n"
+
+-- already layout 2 number N
+abbrev pub already_line : ℕ → List ℕ
+already_line number = codes "already layout 2 number " ++ decimal number ++ codes "\n"
+
 -- boot bank B number N software M.V bytes L
 abbrev pub booted_line : ℕ → ℕ → SwId → ℕ → List ℕ
 booted_line bank number software bytes =

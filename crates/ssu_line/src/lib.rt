@@ -11,8 +11,8 @@ mod writing;
 pub use audit_lines::{audit_ok, audit_refused};
 pub use level_lines::{carousel, component, groups, modules, notices, program, services};
 pub use result_lines::{
-    aired, bad_module, blank, booted, built, formatted, incomplete, installed, loaded, nothing,
-    sampled, unsettled, verdict,
+    aired, already, bad_module, blank, booted, built, formatted, incomplete, installed, loaded,
+    migrated, nothing, sampled, unsettled, verdict,
 };
 pub use section_line::shown;
 pub use writing::Line;

@@ -3,7 +3,7 @@ ghost use Rattle.std.specs.Prelude.{◌≡◌, ◌+◌, ◌≤◌, ◌++◌};
 ghost use Rattle.arrayvec.specs.ArrayString.{array_string_len};
 ghost use Rattle.ssu_line.specs.Lines.{loaded_line, installed_line, nothing_line, incomplete_line, bad_module_line};
 ghost use Rattle.ssu_line.specs.Lines.{unsettled_line, built_line, blank_line, formatted_line, booted_line};
-ghost use Rattle.ssu_line.specs.Lines.{aired_line, sampled_line};
+ghost use Rattle.ssu_line.specs.Lines.{aired_line, already_line, migrated_line, sampled_line};
 ghost use Rattle.ssu_line.specs.Lines.{software_text, verdict_line};
 
 use crate::writing::{Line, put_count, put_hex_word, put_number};
@@ -160,6 +160,30 @@ pub fn formatted(bytes: u32) -> Line
     let mut line = Line::new();
     line.push_str("formatted bytes ");
     put_number(&mut line, bytes);
+    line.push_str("\n");
+    line
+}
+
+/// `migrated bytes L number N`: the length of the image, and the number of the record of layout 2.
+pub fn migrated(bytes: u32, number: u32) -> Line
+    ensures { result.bytes ≡ migrated_line bytes number }
+{
+    let mut line = Line::new();
+    line.push_str("migrated bytes ");
+    put_number(&mut line, bytes);
+    line.push_str(" number ");
+    put_number(&mut line, number);
+    line.push_str("\n");
+    line
+}
+
+/// `already layout 2 number N`: the number of the record of layout 2 that was there.
+pub fn already(number: u32) -> Line
+    ensures { result.bytes ≡ already_line number }
+{
+    let mut line = Line::new();
+    line.push_str("already layout 2 number ");
+    put_number(&mut line, number);
     line.push_str("\n");
     line
 }

@@ -3,7 +3,7 @@ use Rattle.std.proofs.Common.{◌≡◌, ℕ, Bool, ◌≤◌, List, [], ◌++�
 use Rattle.std.specs.Prelude.{Err, IfErr, IfOk, IsErrOf, IsOkAnd, Ok, Result}
 use Rattle.ssu_io.specs.Bytes.{Takes}
 use Rattle.ts_input.specs.Packets.{IsAtEnd, IsOneMore, IsWithin}
-use Rattle.flash_bank.specs.Layout.{Geometry}
+use Rattle.flash_layout.specs.Layout.{Geometry}
 use Rattle.flash_bank.specs.Sound.{Boot, BootOf}
 use Rattle.ssu_answer.specs.declared.chosen.Chosen.{Chosen}
 use Rattle.route_tables.specs.Values.{Receiver}

@@ -5,7 +5,7 @@ use Rattle.std.specs.Option.{option_and_then}
 use Rattle.ts_section.specs.Events.{Heard}
 use Rattle.ssu_group.specs.declared.group_plan.GroupPlan.{GroupPlan}
 use Rattle.ssu_group.specs.declared.module_plan.ModulePlan.{ModulePlan}
-use Rattle.ssu_group.specs.Carried.{filling, missing_places}
+use Rattle.ssu_group.specs.Carried.{missing_places, nothing_kept}
 use Rattle.ssu_group.specs.Plan.{size_of}
 use Rattle.ssu_group.proofs.LayoutLaws.{laid_bytes, not_refused}
 use Rattle.ssu_group.proofs.MapLaws.{missing_all}
@@ -20,11 +20,10 @@ use Rattle.ssu_route.specs.Choosing.{level_7}
 use Rattle.ssu_route.specs.Queries.{carousel_pid}
 use Rattle.ssu_route.specs.Route.{HasUsableDii}
 use Rattle.ssu_route.specs.Windows.{IsChoice, beginnings, change_at, chosen_dii, offered_by, window}
-use Rattle.ssu_route.proofs.Choices.{carousel_stands, chosen_some, level_7-none, lost_none, none_begins, one_more_begins, same_stays, section_passes, window_empty}
+use Rattle.ssu_route.proofs.Choices.{carousel_stands, chosen_some, level_7-none, lost_none, none_begins, one_more_begins, same_stays, section_passes}
 use Rattle.ssu_route.proofs.OwnGroup.{groups_same, wanted_same}
 use Rattle.ssu_loader.specs.Decisions.{IsStanding}
 use Rattle.ssu_loader.proofs.DecisionLaws.{standing_is}
-use Rattle.ssu_group.proofs.Filling.{filling-none}
 
 -- without a message there is no choice
 pub no_choice : (me : Receiver) (heard : List Heard) (choice : Choice) → level_7 me heard ≡ None → IsChoice me heard choice → ⊥
@@ -75,9 +74,9 @@ choice_fits me heard choice is =
     omega (arith, all, bytes, (not_refused is.dii me.bank_len is.usable).fits)
 
 -- where a choice begins, all its places are missing
-pub all_missing : (plan : GroupPlan) → 1 ≤ missing_places plan []
+pub all_missing : (plan : GroupPlan) → 1 ≤ missing_places plan nothing_kept
 all_missing plan =
-    let count = missing_all (λ (n : ℕ). is_some (filling plan [] n)) plan.places (λ n below. ap is_some (filling-none plan n)) in
+    let count = missing_all (λ (n : ℕ). is_some (nothing_kept n)) plan.places (λ n below. refl) in
     omega (arith, count, some_place plan)
 
 no_some : {A : Type 0} (o : Option A) → o ≡ None → IsSome o → ⊥
@@ -87,9 +86,6 @@ no_some (Some a) none some = absurd cc
 -- a choice that begins stands
 pub begun_stands : (me : Receiver) (item : Heard) (heard : List Heard) → change_at me item heard ≡ Chosen → level_7 me (item ∷ heard) ≡ None → ⊥
 begun_stands me item heard chosen none = no_some (level_7 me (item ∷ heard)) none (chosen_some me item heard chosen)
-
-pub begun_window : (me : Receiver) (item : Heard) (heard : List Heard) → change_at me item heard ≡ Chosen → window me (item ∷ heard) ≡ []
-begun_window me item heard chosen = window_empty me item heard (λ same. let both : Chosen ≡ Same = sym chosen ∙ same in cc)
 
 -- ---- where a choice stands, one began
 

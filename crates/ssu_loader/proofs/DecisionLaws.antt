@@ -14,10 +14,12 @@ use Rattle.ssu_route.specs.declared.change.Change.TheVariants as change
 use Rattle.ssu_route.specs.declared.choice.Choice.{Choice}
 use Rattle.ssu_group.specs.Lays.{IsPlanOf}
 use Rattle.ssu_route.specs.Choosing.{level_6, level_7}
-use Rattle.ssu_route.specs.Windows.{IsChoice, beginnings, begins_at, change_at, choices, is_one_too_many, offered_by, standing, window}
+use Rattle.ssu_route.specs.Windows.{IsChoice, beginnings, begins_at, change_at, choices, is_one_too_many, offered_by, standing}
 use Rattle.ssu_route.proofs.Choices.{begins_exactly, level_7-none}
 use Rattle.ssu_loader.specs.Decisions.{Decides, Decision, IsOpen, IsStanding, IsWhole, IsWrong, Reaches, TooMany, Whole, Wrong, chosen_of}
-use Rattle.ssu_group.proofs.SamePlans.{IsSamePlan, same_missing, same_plan}
+use Rattle.ssu_group.proofs.SamePlans.{IsSamePlan, same_plan}
+use Rattle.ssu_loader.specs.Opening.{fills_at}
+use Rattle.ssu_loader.proofs.PlanLaws.{same_count}
 
 -- ---- the first decision
 
@@ -96,13 +98,13 @@ one_choice me heard a b p q =
     }
 
 -- where a place is missing nothing is decided
-pub missing_decides : (me : Receiver) (heard : List Heard) (choice : Choice) → IsChoice me heard choice → 1 ≤ missing_places choice.plan (window me heard) → is_one_too_many me heard ≡ false
+pub missing_decides : (me : Receiver) (heard : List Heard) (choice : Choice) → IsChoice me heard choice → 1 ≤ missing_places choice.plan (fills_at me heard choice.plan) → is_one_too_many me heard ≡ false
     → (d : Decision) → Decides me heard d → ⊥
 missing_decides me heard choice chosen some few (Whole c image) is =
-    let same = same_missing choice.plan is.choice.plan (window me heard) (one_choice me heard choice is.choice chosen is.standing.chosen).plan in
+    let same = same_count me heard choice.plan is.choice.plan (one_choice me heard choice is.choice chosen is.standing.chosen).plan in
     absurd (omega (arith, same, some, is.whole.filled))
 missing_decides me heard choice chosen some few (Wrong id want found) is =
-    let same = same_missing choice.plan is.choice.plan (window me heard) (one_choice me heard choice is.choice chosen is.standing.chosen).plan in
+    let same = same_count me heard choice.plan is.choice.plan (one_choice me heard choice is.choice chosen is.standing.chosen).plan in
     absurd (omega (arith, same, some, is.wrong.filled))
 missing_decides me heard choice chosen some few TooMany is = absurd cc
 
@@ -133,21 +135,21 @@ abbrev SettlesGroup : Receiver → List Heard → Type 0
 SettlesGroup me heard =
     ((chosen : Chosen) × (image : List ℕ) × IsWhole me heard chosen image) ⊎ ((id : ℕ) × (want : ℕ) × (found : ℕ) × IsWrong me heard id want found)
 
-pub filled_settles : (me : Receiver) (heard : List Heard) (choice : Choice) → IsStanding me heard choice → missing_places choice.plan (window me heard) ≡ 0 → SettlesGroup me heard
-filled_settles me heard choice is filled = by_wrong (wrong_module choice.plan.modules.items (carried_image choice.plan (window me heard))) refl
+pub filled_settles : (me : Receiver) (heard : List Heard) (choice : Choice) → IsStanding me heard choice → missing_places choice.plan (fills_at me heard choice.plan) ≡ 0 → SettlesGroup me heard
+filled_settles me heard choice is filled = by_wrong (wrong_module choice.plan.modules.items (carried_image choice.plan (fills_at me heard choice.plan))) refl
   where
-    by_wrong : (o : Option ModulePlan) → wrong_module choice.plan.modules.items (carried_image choice.plan (window me heard)) ≡ o → SettlesGroup me heard
+    by_wrong : (o : Option ModulePlan) → wrong_module choice.plan.modules.items (carried_image choice.plan (fills_at me heard choice.plan)) ≡ o → SettlesGroup me heard
     by_wrong None right = inl (
       chosen_of choice,
-      carried_image choice.plan (window me heard),
+      carried_image choice.plan (fills_at me heard choice.plan),
       record { choice = choice; standing = is; is = refl; whole = record { filled = filled; joins = refl; right = right } },
     )
     by_wrong (Some m) first =
-        let crc = has_crc (module_bytes (carried_image choice.plan (window me heard)) m) m.crc (wrong_found choice.plan.modules.items (carried_image choice.plan (window me heard)) m first) in
+        let crc = has_crc (module_bytes (carried_image choice.plan (fills_at me heard choice.plan)) m) m.crc (wrong_found choice.plan.modules.items (carried_image choice.plan (fills_at me heard choice.plan)) m first) in
         inr (
           m.id,
           crc.0,
-          crc_of (module_bytes (carried_image choice.plan (window me heard)) m),
+          crc_of (module_bytes (carried_image choice.plan (fills_at me heard choice.plan)) m),
           record {
             choice = choice;
             standing = is;
@@ -156,7 +158,7 @@ filled_settles me heard choice is filled = by_wrong (wrong_module choice.plan.mo
         )
 
 -- so something is decided
-filled_decides : (me : Receiver) (heard : List Heard) (choice : Choice) → IsStanding me heard choice → missing_places choice.plan (window me heard) ≡ 0 → (d : Decision) × Decides me heard d
+filled_decides : (me : Receiver) (heard : List Heard) (choice : Choice) → IsStanding me heard choice → missing_places choice.plan (fills_at me heard choice.plan) ≡ 0 → (d : Decision) × Decides me heard d
 filled_decides me heard choice is filled =
     ⊎_elim (λ whole. (Whole whole.0 whole.1, whole.2)) (λ wrong. (Wrong wrong.0 wrong.1 wrong.2, wrong.3)) (filled_settles me heard choice is filled)
 
@@ -175,10 +177,10 @@ open_decides me [] undecided TooMany is = let none = none_too_many me in absurd 
 open_decides me (item ∷ heard) undecided d is = undecided d (reached_now me item heard d (open_before me item heard undecided) is)
 
 -- so a place of the choice is missing
-pub some_missing : (me : Receiver) (heard : List Heard) (choice : Choice) → IsOpen me heard → IsStanding me heard choice → 1 ≤ missing_places choice.plan (window me heard)
-some_missing me heard choice undecided is = by_count (missing_places choice.plan (window me heard)) refl
+pub some_missing : (me : Receiver) (heard : List Heard) (choice : Choice) → IsOpen me heard → IsStanding me heard choice → 1 ≤ missing_places choice.plan (fills_at me heard choice.plan)
+some_missing me heard choice undecided is = by_count (missing_places choice.plan (fills_at me heard choice.plan)) refl
   where
-    by_count : (n : ℕ) → missing_places choice.plan (window me heard) ≡ n → 1 ≤ missing_places choice.plan (window me heard)
+    by_count : (n : ℕ) → missing_places choice.plan (fills_at me heard choice.plan) ≡ n → 1 ≤ missing_places choice.plan (fills_at me heard choice.plan)
     by_count zero none = let d = filled_decides me heard choice is none in absurd (open_decides me heard undecided d.0 d.1)
     by_count (suc n) some = omega (arith, some)
 

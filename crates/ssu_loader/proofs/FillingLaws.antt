@@ -1,5 +1,5 @@
 -- What a section brings to the places of a plan, and what is staged then.
-use Rattle.std.proofs.Common.{◌≡◌, ◌≢◌, ℕ, ◌<◌, Bool, true, false, cond, eqb, List, [], ◌∷◌, Option, Some, None, refl, sym, ap, ◌∙◌}
+use Rattle.std.proofs.Common.{◌≡◌, ◌≢◌, ℕ, ◌<◌, Bool, true, false, cond, eqb, List, [], Option, Some, None, refl, sym, ap, ◌∙◌}
 use Rattle.std.specs.Prelude.{is_some, unwrap_or}
 use Rattle.std.specs.Option.{option_or}
 use Rattle.std.proofs.lemmas.Bool.{eqb-true, eq-eqb}
@@ -7,20 +7,23 @@ use Rattle.dsmcc_msg.specs.Block.{DdbFields, ddb}
 use Rattle.ssu_group.specs.declared.places.Place.{Place}
 use Rattle.ssu_group.specs.declared.group_plan.GroupPlan.{GroupPlan}
 use Rattle.ssu_group.specs.Place.{place_of}
-use Rattle.ssu_group.specs.Carried.{brings, filling}
-use Rattle.ssu_group.proofs.Filling.{brings_place, filling-step}
+use Rattle.ssu_group.specs.Carried.{Fills, brings, with_section}
+use Rattle.ssu_group.proofs.Filling.{brings_place}
 
 -- ---- a section that brings nothing
+
+step : (plan : GroupPlan) (section : List ℕ) (fills : Fills) (n : ℕ) → with_section plan section fills n ≡ option_or (fills n) (brings plan n section)
+step plan section fills n = refl
 
 or_none : {A : Type 0} (o : Option A) → option_or o None ≡ o
 or_none None = refl
 or_none (Some a) = refl
 
 -- a section that fills no place
-pub filling_same : (plan : GroupPlan) (window : List (List ℕ)) (section : List ℕ) → ((n : ℕ) → brings plan n section ≡ None) → (n : ℕ)
-    → filling plan (section ∷ window) n ≡ filling plan window n
-filling_same plan window section nothing n =
-    filling-step plan section window n ∙ ap (option_or (filling plan window n)) (nothing n) ∙ or_none (filling plan window n)
+pub filling_same : (plan : GroupPlan) (fills : Fills) (section : List ℕ) → ((n : ℕ) → brings plan n section ≡ None) → (n : ℕ)
+    → with_section plan section fills n ≡ fills n
+filling_same plan fills section nothing n =
+    step plan section fills n ∙ ap (option_or (fills n)) (nothing n) ∙ or_none (fills n)
 
 -- ---- a block that fills a place
 
@@ -39,23 +42,23 @@ module _ (plan : GroupPlan) (section : List ℕ) (d : DdbFields) (p : Place) (re
   some_or (Some b) = refl
 
   -- the places that are staged
-  pub has_more : (has has' : ℕ → Bool) (window : List (List ℕ)) → has' p.number ≡ true → ((n : ℕ) → n ≢ p.number → has' n ≡ has n)
-      → ((n : ℕ) → n < plan.places → has n ≡ is_some (filling plan window n)) → (n : ℕ) → n < plan.places → has' n ≡ is_some (filling plan (section ∷ window) n)
-  has_more has has' window added others filled n below = by_number (eqb p.number n) refl
+  pub has_more : (has has' : ℕ → Bool) (fills : Fills) → has' p.number ≡ true → ((n : ℕ) → n ≢ p.number → has' n ≡ has n)
+      → ((n : ℕ) → n < plan.places → has n ≡ is_some (fills n)) → (n : ℕ) → n < plan.places → has' n ≡ is_some (with_section plan section fills n)
+  has_more has has' fills added others filled n below = by_number (eqb p.number n) refl
     where
-      by_number : (same : Bool) → eqb p.number n ≡ same → has' n ≡ is_some (filling plan (section ∷ window) n)
+      by_number : (same : Bool) → eqb p.number n ≡ same → has' n ≡ is_some (with_section plan section fills n)
       by_number true is =
           ap has' (sym (eqb-true p.number n is)) ∙ added
-          ∙ sym (ap is_some (filling-step plan section window n) ∙ ap (λ (o : Option (List ℕ)). is_some (option_or (filling plan window n) o)) (own n is) ∙ some_or (filling plan window n))
+          ∙ sym (ap is_some (step plan section fills n) ∙ ap (λ (o : Option (List ℕ)). is_some (option_or (fills n) o)) (own n is) ∙ some_or (fills n))
       by_number false is =
           others n (differs n is) ∙ filled n below
-          ∙ sym (ap is_some (filling-step plan section window n) ∙ ap (λ (o : Option (List ℕ)). is_some (option_or (filling plan window n) o)) (other n is) ∙ ap is_some (or_none (filling plan window n)))
+          ∙ sym (ap is_some (step plan section fills n) ∙ ap (λ (o : Option (List ℕ)). is_some (option_or (fills n) o)) (other n is) ∙ ap is_some (or_none (fills n)))
 
   -- and their bytes
-  pub text_more : (has : ℕ → Bool) (text text' : ℕ → List ℕ) (window : List (List ℕ)) → (has p.number ≡ false → text' p.number ≡ d.bytes) → ((n : ℕ) → has n ≡ true → text' n ≡ text n)
-      → ((n : ℕ) → n < plan.places → has n ≡ is_some (filling plan window n)) → ((n : ℕ) (b : List ℕ) → n < plan.places → filling plan window n ≡ Some b → text n ≡ b)
-      → (n : ℕ) (b : List ℕ) → n < plan.places → filling plan (section ∷ window) n ≡ Some b → text' n ≡ b
-  text_more has text text' window new_text old_text filled holds n b below e = by_filling (filling plan window n) refl (sym (filling-step plan section window n) ∙ e)
+  pub text_more : (has : ℕ → Bool) (text text' : ℕ → List ℕ) (fills : Fills) → (has p.number ≡ false → text' p.number ≡ d.bytes) → ((n : ℕ) → has n ≡ true → text' n ≡ text n)
+      → ((n : ℕ) → n < plan.places → has n ≡ is_some (fills n)) → ((n : ℕ) (b : List ℕ) → n < plan.places → fills n ≡ Some b → text n ≡ b)
+      → (n : ℕ) (b : List ℕ) → n < plan.places → with_section plan section fills n ≡ Some b → text' n ≡ b
+  text_more has text text' fills new_text old_text filled holds n b below e = by_filling (fills n) refl (sym (step plan section fills n) ∙ e)
     where
       by_number : (same : Bool) → eqb p.number n ≡ same → brings plan n section ≡ Some b → has n ≡ false → text' n ≡ b
       by_number true is brought was =
@@ -64,7 +67,7 @@ module _ (plan : GroupPlan) (section : List ℕ) (d : DdbFields) (p : Place) (re
           ap text' (sym number) ∙ new_text (ap has number ∙ was) ∙ same
       by_number false is brought was = let h = other n is in absurd cc
 
-      by_filling : (o : Option (List ℕ)) → filling plan window n ≡ o → option_or (filling plan window n) (brings plan n section) ≡ Some b → text' n ≡ b
+      by_filling : (o : Option (List ℕ)) → fills n ≡ o → option_or (fills n) (brings plan n section) ≡ Some b → text' n ≡ b
       by_filling (Some x) is g =
           let same : x ≡ b = let h : option_or (Some x) (brings plan n section) ≡ Some b = ap (λ (o : Option (List ℕ)). option_or o (brings plan n section)) (sym is) ∙ g in cc in
           old_text n (filled n below ∙ ap is_some is) ∙ holds n x below is ∙ same
@@ -79,8 +82,8 @@ value_of None h = absurd cc
 value_of (Some b) h = (b, refl)
 
 -- the text of a place that is filled
-pub text_filled : (plan : GroupPlan) (window : List (List ℕ)) (text : ℕ → List ℕ) → ((n : ℕ) (b : List ℕ) → n < plan.places → filling plan window n ≡ Some b → text n ≡ b)
-    → (n : ℕ) → n < plan.places → is_some (filling plan window n) ≡ true → text n ≡ unwrap_or (filling plan window n) []
-text_filled plan window text holds n below is =
-    let some = value_of (filling plan window n) is in
+pub text_filled : (plan : GroupPlan) (fills : Fills) (text : ℕ → List ℕ) → ((n : ℕ) (b : List ℕ) → n < plan.places → fills n ≡ Some b → text n ≡ b)
+    → (n : ℕ) → n < plan.places → is_some (fills n) ≡ true → text n ≡ unwrap_or (fills n) []
+text_filled plan fills text holds n below is =
+    let some = value_of (fills n) is in
     holds n some.0 below some.1 ∙ sym (ap (λ (o : Option (List ℕ)). unwrap_or o []) some.1)

@@ -4,7 +4,7 @@ use Rattle.std.specs.Prelude.{Result, Ok, Err}
 use Rattle.box_file.specs.declared.file.BoxFile.{BoxFile}
 use Rattle.flash_dev.specs.declared.device.Flash.{Ghosts as FlashGhosts}
 use Rattle.flash_bank.specs.Bank.{Fits, IsLent, block_of, current_of, geometry_of}
-use Rattle.flash_bank.specs.Layout.{Geometry}
+use Rattle.flash_layout.specs.Layout.{Geometry}
 use Rattle.flash_bank.specs.Sound.{IsWorn, number_in}
 use Rattle.flash_bank.specs.declared.bank.Bank.{Bank}
 use Rattle.flash_bank.specs.declared.fault.BankFault.{BankFault}
@@ -49,6 +49,7 @@ fresh_follows s f file loader flash fresh lent next =
       collects = record {
         stands = fresh.stands;
         gathers = record {
+          opens = refl;
           len = refl;
           runs = refl;
           lent = lent;

@@ -8,7 +8,7 @@ use Rattle.flash_dev.specs.Moments.{LeavesOnly}
 use Rattle.flash_dev.proofs.Moments.{joined, weaker}
 use Rattle.flash_stage.specs.declared.stage.Stage.{Ghosts as StageGhosts}
 use Rattle.flash_bank.specs.Bank.{Fits, IsLent, current_of, geometry_of}
-use Rattle.flash_bank.specs.Layout.{Geometry}
+use Rattle.flash_layout.specs.Layout.{Geometry}
 use Rattle.flash_bank.specs.Leaving.{Installs, KeepsBoot}
 use Rattle.flash_bank.specs.Record.{next_record}
 use Rattle.flash_bank.proofs.BankLemmas.{begun_gone}
@@ -279,7 +279,7 @@ module _ {S F : Type 0} (s : StageGhosts S) (f : FlashGhosts F) where
     heard_no_prev staged tells me heard col (BadModule id want found) ends =
         let before_it = sofar.collects me heard col in
         let wrong = decided_now me (heard_on pid section) (earlier heard) (Wrong id want found) before_it.gathers.knows.undecided ends.0 in
-        let began = wrong_began me (heard_on pid section) (earlier heard) id want found wrong in
+        let began = wrong_began me (heard_on pid section) (earlier heard) id want found before_it.gathers.opens wrong in
         let count = before_it.gathers.knows.counted in
         let gone = begun_gone mid.bank (f.contents between) (before_it.gathers.lent.fits tells) (before_it.gathers.begun staged (omega (arith, count, began))) in
         subst (λ (g : Geometry). HasNoPrev g (f.contents now)) sofar.bank.geometry (λ b from. gone b (ends.1.keeps.prev b from))

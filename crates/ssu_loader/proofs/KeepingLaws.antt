@@ -1,7 +1,7 @@
 -- What a call leaves of a flash after others that kept what boot takes, with the bank as they left it.
 use Rattle.std.proofs.Common.{◌≡◌, inl, inr, ⊎_elim, ℕ, List, sym, ap, subst, ◌∙◌}
 use Rattle.flash_bank.specs.Bank.{Fits, block_of, current_of, geometry_of}
-use Rattle.flash_bank.specs.Layout.{Geometry}
+use Rattle.flash_layout.specs.Layout.{Geometry}
 use Rattle.flash_bank.specs.Leaving.{Installs, KeepsBoot}
 use Rattle.flash_bank.specs.Sound.{Boot, BootOf, record_in}
 use Rattle.flash_bank.specs.declared.bank.Bank.{Bank}

@@ -16,6 +16,8 @@ pub mod ChoiceLaws
 pub mod CollectingLaws
 pub mod HearingLaws
 pub mod PacketLaws
+pub mod KeptLaws
+pub mod FirstLaws
 pub mod FreshLaws
 pub mod UnlessLaws
 pub mod StoringLaws

@@ -10,7 +10,8 @@ use Rattle.ssu_group.specs.Carried.{carried_image, module_bytes, wrong_module}
 use Rattle.route_tables.specs.Values.{Receiver}
 use Rattle.ssu_route.specs.declared.choice.Choice.{Choice}
 use Rattle.ssu_route.specs.Choosing.{level_7}
-use Rattle.ssu_route.specs.Windows.{begins_at, beginnings, choices, is_one_too_many, standing, window}
+use Rattle.ssu_route.specs.Windows.{begins_at, beginnings, choices, is_one_too_many, standing}
+use Rattle.ssu_loader.specs.Opening.{fills_at}
 use Rattle.ssu_loader.specs.Decisions.{Decides, Decision, IsWhole, IsWrong, Reaches, TooMany, Whole, Wrong, chosen_of}
 use Rattle.ssu_loader.proofs.DecisionLaws.{IsOneChoice, one_choice}
 use Rattle.ssu_loader.proofs.PlanLaws.{same_image}
@@ -29,24 +30,24 @@ wholes_one me heard c d i j first second =
     let b = second.choice in
     let same = one_choice me heard a b first.standing.chosen second.standing.chosen in
     let chosen : c ≡ d = first.is ∙ (same_chosen a b same ∙ sym second.is) in
-    let image : i ≡ j = first.whole.joins ∙ (same_image a.plan b.plan (window me heard) same.plan ∙ sym second.whole.joins) in
+    let image : i ≡ j = first.whole.joins ∙ (same_image me heard a.plan b.plan same.plan ∙ sym second.whole.joins) in
     (λ k. Whole (chosen k) (image k))
 
 -- the first wrong module of the same plan is the same
-same_wrong : (a b : Choice) (sections : List (List ℕ)) → IsOneChoice a b
-    → wrong_module a.plan.modules.items (carried_image a.plan sections) ≡ wrong_module b.plan.modules.items (carried_image b.plan sections)
-same_wrong a b sections same =
-    ap (λ (ms : List ModulePlan). wrong_module ms (carried_image a.plan sections)) same.plan.modules
-    ∙ ap (λ (image : List ℕ). wrong_module b.plan.modules.items image) (same_image a.plan b.plan sections same.plan)
+same_wrong : (me : Receiver) (heard : List Heard) (a b : Choice) → IsOneChoice a b
+    → wrong_module a.plan.modules.items (carried_image a.plan (fills_at me heard a.plan)) ≡ wrong_module b.plan.modules.items (carried_image b.plan (fills_at me heard b.plan))
+same_wrong me heard a b same =
+    ap (λ (ms : List ModulePlan). wrong_module ms (carried_image a.plan (fills_at me heard a.plan))) same.plan.modules
+    ∙ ap (λ (image : List ℕ). wrong_module b.plan.modules.items image) (same_image me heard a.plan b.plan same.plan)
 
 whole_not_wrong : (me : Receiver) (heard : List Heard) (c : Chosen) (i : List ℕ) (id want found : ℕ) → IsWhole me heard c i → IsWrong me heard id want found → ⊥
 whole_not_wrong me heard c i id want found first second =
     let a = first.choice in
     let b = second.choice in
     let same = one_choice me heard a b first.standing.chosen second.standing.chosen in
-    let none : wrong_module a.plan.modules.items (carried_image a.plan (window me heard)) ≡ None =
+    let none : wrong_module a.plan.modules.items (carried_image a.plan (fills_at me heard a.plan)) ≡ None =
     ap (λ (image : List ℕ). wrong_module a.plan.modules.items image) (sym first.whole.joins) ∙ first.whole.right in
-    let some : None ≡ Some second.wrong.module_plan = sym none ∙ (same_wrong a b (window me heard) same ∙ second.wrong.first) in
+    let some : None ≡ Some second.wrong.module_plan = sym none ∙ (same_wrong me heard a b same ∙ second.wrong.first) in
     cc
 
 wrongs_one : (me : Receiver) (heard : List Heard) (id want found id' want' found' : ℕ) → IsWrong me heard id want found → IsWrong me heard id' want' found' → Wrong id want found ≡ Wrong id' want' found'
@@ -56,12 +57,12 @@ wrongs_one me heard id want found id' want' found' first second =
     let same = one_choice me heard a b first.standing.chosen second.standing.chosen in
     let m = first.wrong.module_plan in
     let n = second.wrong.module_plan in
-    let module_plan : m ≡ n = some_same m n (sym first.wrong.first ∙ (same_wrong a b (window me heard) same ∙ second.wrong.first)) in
+    let module_plan : m ≡ n = some_same m n (sym first.wrong.first ∙ (same_wrong me heard a b same ∙ second.wrong.first)) in
     let own_id : id ≡ id' = first.wrong.own_id ∙ (ap (λ (p : ModulePlan). p.id) module_plan ∙ sym second.wrong.own_id) in
     let wanted : want ≡ want' = some_same want want' (sym first.wrong.wanted ∙ (ap (λ (p : ModulePlan). p.crc) module_plan ∙ second.wrong.wanted)) in
-    let image = same_image a.plan b.plan (window me heard) same.plan in
+    let image = same_image me heard a.plan b.plan same.plan in
     let has : found ≡ found' =
-    first.wrong.has ∙ (ap (λ (p : ModulePlan). crc_of (module_bytes (carried_image a.plan (window me heard)) p)) module_plan
+    first.wrong.has ∙ (ap (λ (p : ModulePlan). crc_of (module_bytes (carried_image a.plan (fills_at me heard a.plan)) p)) module_plan
     ∙ (ap (λ (bytes : List ℕ). crc_of (module_bytes bytes n)) image ∙ sym second.wrong.has)) in
     (λ k. Wrong (own_id k) (wanted k) (has k))
 

@@ -5,7 +5,7 @@ use Rattle.flash_dev.specs.declared.device.Flash.{Ghosts as FlashGhosts}
 use Rattle.flash_dev.specs.Moments.{LeavesOnly}
 use Rattle.flash_dev.proofs.Moments.{joined}
 use Rattle.flash_bank.specs.Bank.{current_of, geometry_of}
-use Rattle.flash_bank.specs.Layout.{Geometry, blocks_of}
+use Rattle.flash_layout.specs.Layout.{Geometry, blocks_of}
 use Rattle.flash_bank.specs.Runs.{OnlyReads}
 use Rattle.flash_bank.specs.Seen.{flash_seen}
 use Rattle.flash_bank.specs.Sound.{Boot, BootOf, IsSound}

@@ -2,7 +2,7 @@
 use Rattle.std.proofs.Common.{◌≡◌, ◌↔◌, inl, refl}
 use Rattle.std.specs.Prelude.{Err, IfErr, IfOk, IsErrOf, Ok, Result}
 use Rattle.box_file.specs.declared.file.BoxFile.{BoxFile}
-use Rattle.flash_bank.specs.Layout.{IsInLimits}
+use Rattle.flash_layout.specs.Layout.{IsInLimits}
 use Rattle.flash_bank.specs.Seen.{FlashSeen}
 use Rattle.flash_bank.specs.Sound.{IsSound, IsWorn}
 use Rattle.ssu_io.specs.Faults.{Rose}

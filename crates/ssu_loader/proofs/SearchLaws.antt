@@ -9,7 +9,7 @@ use Rattle.flash_stage.specs.declared.stage.Stage.{Ghosts as StageGhosts}
 use Rattle.flash_stage.proofs.LeavingLaws.{bank_itself, banks_joined}
 use Rattle.ssu_group.specs.declared.group_plan.GroupPlan.{GroupPlan}
 use Rattle.ssu_group.specs.declared.module_plan.ModulePlan.{ModulePlan}
-use Rattle.ssu_group.specs.Carried.{carried_image, is_right, IsWrong, is_wrong}
+use Rattle.ssu_group.specs.Carried.{Fills, carried_image, is_right, IsWrong, is_wrong}
 use Rattle.ssu_group.specs.Map.{missing_below}
 use Rattle.ssu_group.proofs.MapLaws.{missing_same}
 use Rattle.ssu_loader.specs.Collecting.{HasFilled, HoldsFilling, Works}
@@ -41,13 +41,13 @@ module _ {S F : Type 0} (s : StageGhosts S) (f : FlashGhosts F) where
       → missing_below (s.has stage) plan.places ≡ 0 → missing_below (s.has stage') plan.places ≡ 0
   whole_stays plan stage stage' bank bank' flash flash' stays whole = missing_same (s.has stage) (s.has stage') plan.places (λ n below. stays.has n) ∙ whole
 
-  pub filled_stays : (plan : GroupPlan) (window : List (List ℕ)) (stage stage' : S) (bank bank' : Bank) (flash flash' : F) → Stays s f stage bank flash stage' bank' flash'
-      → HasFilled s plan window stage → HasFilled s plan window stage'
-  filled_stays plan window stage stage' bank bank' flash flash' stays filled n below = stays.has n ∙ filled n below
+  pub filled_stays : (plan : GroupPlan) (fills : Fills) (stage stage' : S) (bank bank' : Bank) (flash flash' : F) → Stays s f stage bank flash stage' bank' flash'
+      → HasFilled s plan fills stage → HasFilled s plan fills stage'
+  filled_stays plan fills stage stage' bank bank' flash flash' stays filled n below = stays.has n ∙ filled n below
 
-  pub holds_stays : (plan : GroupPlan) (window : List (List ℕ)) (stage stage' : S) (bank bank' : Bank) (flash flash' : F) → f.tells → Stays s f stage bank flash stage' bank' flash'
-      → HoldsFilling s plan window stage bank (f.contents flash) → HoldsFilling s plan window stage' bank' (f.contents flash')
-  holds_stays plan window stage stage' bank bank' flash flash' tells stays holds n b below e = stays.bytes tells n ∙ holds n b below e
+  pub holds_stays : (plan : GroupPlan) (fills : Fills) (stage stage' : S) (bank bank' : Bank) (flash flash' : F) → f.tells → Stays s f stage bank flash stage' bank' flash'
+      → HoldsFilling s plan fills stage bank (f.contents flash) → HoldsFilling s plan fills stage' bank' (f.contents flash')
+  holds_stays plan fills stage stage' bank bank' flash flash' tells stays holds = record { lengths = holds.lengths; texts = λ n b below e. stays.bytes tells n ∙ holds.texts n b below e }
 
   -- ---- the search
 
@@ -57,8 +57,8 @@ module _ {S F : Type 0} (s : StageGhosts S) (f : FlashGhosts F) where
     pub stays : Stays s f stage bank flash stage' bank' flash'
     pub most : s.most stage' ≡ s.most stage
     pub later : f.faults flash ≤ f.faults flash'
-    pub found : f.tells → (window : List (List ℕ)) → HasFilled s plan window stage → HoldsFilling s plan window stage bank (f.contents flash)
-        → find (is_wrong (carried_image plan window)) (drop index modules) ≡ find (is_wrong (carried_image plan window)) modules
+    pub found : f.tells → (fills : Fills) → HasFilled s plan fills stage → HoldsFilling s plan fills stage bank (f.contents flash)
+        → find (is_wrong (carried_image plan fills)) (drop index modules) ≡ find (is_wrong (carried_image plan fills)) modules
 
 -- ---- the module that is looked at
 

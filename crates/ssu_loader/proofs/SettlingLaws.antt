@@ -15,7 +15,7 @@ use Rattle.flash_stage.specs.Outline.{Outline, group_text, module_text, outline_
 use Rattle.flash_stage.proofs.TextLaws.{carried_module, joined_same, module_below}
 use Rattle.ssu_group.specs.declared.group_plan.GroupPlan.{GroupPlan}
 use Rattle.ssu_group.specs.declared.module_plan.ModulePlan.{ModulePlan}
-use Rattle.ssu_group.specs.Carried.{carried_image, crc_is, filling, is_right, missing_places, module_bytes, wrong_module, HasWrong, IsWrong, is_wrong}
+use Rattle.ssu_group.specs.Carried.{Fills, HaveLengths, carried_image, crc_is, is_right, missing_places, module_bytes, wrong_module, HasWrong, IsWrong, is_wrong}
 use Rattle.ssu_group.specs.Map.{missing_below}
 use Rattle.ssu_group.proofs.MapLaws.{all_marked, missing_same}
 use Rattle.ssu_route.specs.declared.choice.Choice.{Choice}
@@ -28,30 +28,30 @@ use Rattle.ssu_loader.proofs.KeepingLaws.{installs_joined, installs_moved, leave
 
 -- ---- the places of a plan
 
-module _ (plan : GroupPlan) (window : List (List ℕ)) (has : ℕ → Bool) (filled : (n : ℕ) → n < plan.places → has n ≡ is_some (filling plan window n)) where
+module _ (plan : GroupPlan) (fills : Fills) (has : ℕ → Bool) (filled : (n : ℕ) → n < plan.places → has n ≡ is_some (fills n)) where
   -- as many are missing
-  pub missing_is : missing_below has plan.places ≡ missing_places plan window
-  missing_is = missing_same (λ (n : ℕ). is_some (filling plan window n)) has plan.places filled
+  pub missing_is : missing_below has plan.places ≡ missing_places plan fills
+  missing_is = missing_same (λ (n : ℕ). is_some (fills n)) has plan.places filled
 
-  pub none_missing : missing_below has plan.places ≡ 0 → missing_places plan window ≡ 0
+  pub none_missing : missing_below has plan.places ≡ 0 → missing_places plan fills ≡ 0
   none_missing whole = sym missing_is ∙ whole
 
-  module _ (text : ℕ → List ℕ) (holds : (n : ℕ) (b : List ℕ) → n < plan.places → filling plan window n ≡ Some b → text n ≡ b) (whole : missing_below has plan.places ≡ 0) where
-    pub text_is : (n : ℕ) → n < plan.places → text n ≡ unwrap_or (filling plan window n) []
-    text_is n below = text_filled plan window text holds n below (sym (filled n below) ∙ all_marked has plan.places whole n below)
+  module _ (text : ℕ → List ℕ) (long : HaveLengths plan fills) (holds : (n : ℕ) (b : List ℕ) → n < plan.places → fills n ≡ Some b → text n ≡ b) (whole : missing_below has plan.places ≡ 0) where
+    pub text_is : (n : ℕ) → n < plan.places → text n ≡ unwrap_or (fills n) []
+    text_is n below = text_filled plan fills text holds n below (sym (filled n below) ∙ all_marked has plan.places whole n below)
 
     -- the bytes of a module
-    pub module_is : (m : ModulePlan) → Contains plan.modules.items m → module_bytes (carried_image plan window) m ≡ module_text text m
+    pub module_is : (m : ModulePlan) → Contains plan.modules.items m → module_bytes (carried_image plan fills) m ≡ module_text text m
     module_is m among =
-        carried_module plan window m (none_missing whole) among
-        ∙ joined_same (λ (k : ℕ). unwrap_or (filling plan window (m.first + k)) []) (λ (k : ℕ). text (m.first + k)) m.blocks
+        carried_module plan fills m long (none_missing whole) among
+        ∙ joined_same (λ (k : ℕ). unwrap_or (fills (m.first + k)) []) (λ (k : ℕ). text (m.first + k)) m.blocks
         (λ k below. sym (text_is (m.first + k) (module_below plan.block_size plan.modules.items plan.places plan.total m k plan.planned among below)))
 
     -- the image
-    pub image_is : (outline : Outline) → outline ≡ outline_of plan → group_text text outline ≡ carried_image plan window
+    pub image_is : (outline : Outline) → outline ≡ outline_of plan → group_text text outline ≡ carried_image plan fills
     image_is outline is =
         ap (λ (o : Outline). group_text text o) is
-        ∙ joined_same text (λ (n : ℕ). unwrap_or (filling plan window n) []) plan.places text_is
+        ∙ joined_same text (λ (n : ℕ). unwrap_or (fills n) []) plan.places text_is
 
 -- all places of a module are staged
 pub module_staged : (plan : GroupPlan) (has : ℕ → Bool) (m : ModulePlan) → missing_below has plan.places ≡ 0 → Contains plan.modules.items m → (k : ℕ) → k < m.blocks → has (m.first + k) ≡ true
@@ -81,10 +81,10 @@ wrong_answer image m text want found (Some wrong) crc has is differs =
 
 -- ---- what is installed
 
-pub installs_whole : (choice : Choice) (window : List (List ℕ)) (bank : Bank) (x y : List ℕ) (outline : Outline) (image : List ℕ) → outline ≡ outline_of choice.plan
-    → missing_places choice.plan window ≡ 0 → image ≡ carried_image choice.plan window → wrong_module choice.plan.modules.items (carried_image choice.plan window) ≡ None
-    → Installs (geometry_of bank) (next_record (current_of bank) outline.total choice.software choice.group) image x y → InstallsWhole choice window bank x y
-installs_whole choice window bank x y outline image is filled joins right installs = record {
+pub installs_whole : (choice : Choice) (fills : Fills) (bank : Bank) (x y : List ℕ) (outline : Outline) (image : List ℕ) → outline ≡ outline_of choice.plan
+    → missing_places choice.plan fills ≡ 0 → image ≡ carried_image choice.plan fills → wrong_module choice.plan.modules.items (carried_image choice.plan fills) ≡ None
+    → Installs (geometry_of bank) (next_record (current_of bank) outline.total choice.software choice.group) image x y → InstallsWhole choice fills bank x y
+installs_whole choice fills bank x y outline image is filled joins right installs = record {
   image = image;
   whole = record {
     filled = filled;
@@ -94,16 +94,16 @@ installs_whole choice window bank x y outline image is filled joins right instal
   installs = subst (λ (o : Outline). Installs (geometry_of bank) (next_record (current_of bank) o.total choice.software choice.group) image x y) is installs;
 }
 
-pub finish_settles : (choice : Choice) (window : List (List ℕ)) (bank : Bank) (x y : List ℕ) (outline : Outline) (image : List ℕ) → outline ≡ outline_of choice.plan
-    → missing_places choice.plan window ≡ 0 → image ≡ carried_image choice.plan window → wrong_module choice.plan.modules.items (carried_image choice.plan window) ≡ None
-    → FinishLeaves (geometry_of bank) (next_record (current_of bank) outline.total choice.software choice.group) image x y → SettlingLeaves choice window bank x y
-finish_settles choice window bank x y outline image is filled joins right =
-    ⊎_elim (λ keeps. inl keeps) (λ installs. inr (installs_whole choice window bank x y outline image is filled joins right installs))
+pub finish_settles : (choice : Choice) (fills : Fills) (bank : Bank) (x y : List ℕ) (outline : Outline) (image : List ℕ) → outline ≡ outline_of choice.plan
+    → missing_places choice.plan fills ≡ 0 → image ≡ carried_image choice.plan fills → wrong_module choice.plan.modules.items (carried_image choice.plan fills) ≡ None
+    → FinishLeaves (geometry_of bank) (next_record (current_of bank) outline.total choice.software choice.group) image x y → SettlingLeaves choice fills bank x y
+finish_settles choice fills bank x y outline image is filled joins right =
+    ⊎_elim (λ keeps. inl keeps) (λ installs. inr (installs_whole choice fills bank x y outline image is filled joins right installs))
 
 -- ---- a bank that is as it was
 
-pub whole_moved : (choice : Choice) (window : List (List ℕ)) (old new : Bank) (x y : List ℕ) → SameBank old new → InstallsWhole choice window new x y → InstallsWhole choice window old x y
-whole_moved choice window old new x y same installs = record {
+pub whole_moved : (choice : Choice) (fills : Fills) (old new : Bank) (x y : List ℕ) → SameBank old new → InstallsWhole choice fills new x y → InstallsWhole choice fills old x y
+whole_moved choice fills old new x y same installs = record {
   image = installs.image;
   whole = installs.whole;
   installs = installs_moved old new (next_record (current_of old) choice.plan.total choice.software choice.group) installs.image x y same
@@ -111,28 +111,28 @@ whole_moved choice window old new x y same installs = record {
       same.current installs.installs);
 }
 
-pub settling_moved : (choice : Choice) (window : List (List ℕ)) (old new : Bank) (x y : List ℕ) → SameBank old new → SettlingLeaves choice window new x y → SettlingLeaves choice window old x y
-settling_moved choice window old new x y same =
-    ⊎_elim (λ keeps. inl (leaves_moved old new x y same keeps)) (λ installs. inr (whole_moved choice window old new x y same installs))
+pub settling_moved : (choice : Choice) (fills : Fills) (old new : Bank) (x y : List ℕ) → SameBank old new → SettlingLeaves choice fills new x y → SettlingLeaves choice fills old x y
+settling_moved choice fills old new x y same =
+    ⊎_elim (λ keeps. inl (leaves_moved old new x y same keeps)) (λ installs. inr (whole_moved choice fills old new x y same installs))
 
-pub settles_moved : (choice : Choice) (window : List (List ℕ)) (old new : Bank) (x y : List ℕ) (verdict : Verdict) → SameBank old new → Settles choice window new x y verdict → Settles choice window old x y verdict
-settles_moved choice window old new x y (Installed chosen) same settles = (settles.0, whole_moved choice window old new x y same settles.1)
-settles_moved choice window old new x y (BadModule id want found) same settles = (settles.0, leaves_moved old new x y same settles.1)
-settles_moved choice window old new x y (Nothing level) same settles = settles
-settles_moved choice window old new x y (Incomplete chosen count) same settles = settles
-settles_moved choice window old new x y Unsettled same settles = settles
+pub settles_moved : (choice : Choice) (fills : Fills) (old new : Bank) (x y : List ℕ) (verdict : Verdict) → SameBank old new → Settles choice fills new x y verdict → Settles choice fills old x y verdict
+settles_moved choice fills old new x y (Installed chosen) same settles = (settles.0, whole_moved choice fills old new x y same settles.1)
+settles_moved choice fills old new x y (BadModule id want found) same settles = (settles.0, leaves_moved old new x y same settles.1)
+settles_moved choice fills old new x y (Nothing level) same settles = settles
+settles_moved choice fills old new x y (Incomplete chosen count) same settles = settles
+settles_moved choice fills old new x y Unsettled same settles = settles
 
-pub answer_moved : (choice : Choice) (window : List (List ℕ)) (old new : Bank) (x y : List ℕ) (answer : Option Verdict) → SameBank old new
-    → IfSome answer (Settles choice window new x y) → IfSome answer (Settles choice window old x y)
-answer_moved choice window old new x y None same settles = tt
-answer_moved choice window old new x y (Some verdict) same settles = settles_moved choice window old new x y verdict same settles
+pub answer_moved : (choice : Choice) (fills : Fills) (old new : Bank) (x y : List ℕ) (answer : Option Verdict) → SameBank old new
+    → IfSome answer (Settles choice fills new x y) → IfSome answer (Settles choice fills old x y)
+answer_moved choice fills old new x y None same settles = tt
+answer_moved choice fills old new x y (Some verdict) same settles = settles_moved choice fills old new x y verdict same settles
 
 -- a module is wrong
-pub has_wrong : (choice : Choice) (window : List (List ℕ)) (m : ModulePlan) (wrong : Wrong) → missing_places choice.plan window ≡ 0
-    → find (is_wrong (carried_image choice.plan window)) choice.plan.modules.items ≡ Some m → IsWrong (carried_image choice.plan window) m wrong
-    → HasWrong choice.plan window wrong.id wrong.want wrong.found
+pub has_wrong : (choice : Choice) (fills : Fills) (m : ModulePlan) (wrong : Wrong) → missing_places choice.plan fills ≡ 0
+    → find (is_wrong (carried_image choice.plan fills)) choice.plan.modules.items ≡ Some m → IsWrong (carried_image choice.plan fills) m wrong
+    → HasWrong choice.plan fills wrong.id wrong.want wrong.found
 unfolding wrong_module
-has_wrong choice window m wrong filled first is = record {
+has_wrong choice fills m wrong filled first is = record {
   filled = filled;
   module_plan = m;
   first = first;
@@ -142,29 +142,29 @@ has_wrong choice window m wrong filled first is = record {
 }
 
 -- and none is
-pub none_wrong : (choice : Choice) (window : List (List ℕ)) → find (is_wrong (carried_image choice.plan window)) choice.plan.modules.items ≡ None
-    → wrong_module choice.plan.modules.items (carried_image choice.plan window) ≡ None
+pub none_wrong : (choice : Choice) (fills : Fills) → find (is_wrong (carried_image choice.plan fills)) choice.plan.modules.items ≡ None
+    → wrong_module choice.plan.modules.items (carried_image choice.plan fills) ≡ None
 unfolding wrong_module
-none_wrong choice window none = none
+none_wrong choice fills none = none
 
 -- ---- after the calls that left the former boot
 
-pub whole_joined : (choice : Choice) (window : List (List ℕ)) (bank : Bank) (x y z : List ℕ) → Fits bank x → KeepsBoot (geometry_of bank) x y → InstallsWhole choice window bank y z → InstallsWhole choice window bank x z
-whole_joined choice window bank x y z fits leaves installs = record {
+pub whole_joined : (choice : Choice) (fills : Fills) (bank : Bank) (x y z : List ℕ) → Fits bank x → KeepsBoot (geometry_of bank) x y → InstallsWhole choice fills bank y z → InstallsWhole choice fills bank x z
+whole_joined choice fills bank x y z fits leaves installs = record {
   image = installs.image;
   whole = installs.whole;
   installs = installs_joined bank (next_record (current_of bank) choice.plan.total choice.software choice.group) installs.image x y z fits leaves installs.installs;
 }
 
-pub settling_joined : (choice : Choice) (window : List (List ℕ)) (bank : Bank) (x y z : List ℕ) → Fits bank x → KeepsBoot (geometry_of bank) x y → SettlingLeaves choice window bank y z → SettlingLeaves choice window bank x z
-settling_joined choice window bank x y z fits leaves =
-    ⊎_elim (λ keeps. inl (keeps_boot_joined (geometry_of bank) x y z leaves keeps)) (λ installs. inr (whole_joined choice window bank x y z fits leaves installs))
+pub settling_joined : (choice : Choice) (fills : Fills) (bank : Bank) (x y z : List ℕ) → Fits bank x → KeepsBoot (geometry_of bank) x y → SettlingLeaves choice fills bank y z → SettlingLeaves choice fills bank x z
+settling_joined choice fills bank x y z fits leaves =
+    ⊎_elim (λ keeps. inl (keeps_boot_joined (geometry_of bank) x y z leaves keeps)) (λ installs. inr (whole_joined choice fills bank x y z fits leaves installs))
 
-pub settles_joined : (choice : Choice) (window : List (List ℕ)) (bank : Bank) (x y z : List ℕ) (answer : Option Verdict) → Fits bank x → KeepsBoot (geometry_of bank) x y
-    → IfSome answer (Settles choice window bank y z) → IfSome answer (Settles choice window bank x z)
-settles_joined choice window bank x y z None fits leaves settles = tt
-settles_joined choice window bank x y z (Some (Installed chosen)) fits leaves settles = (settles.0, whole_joined choice window bank x y z fits leaves settles.1)
-settles_joined choice window bank x y z (Some (BadModule id want found)) fits leaves settles = (settles.0, keeps_boot_joined (geometry_of bank) x y z leaves settles.1)
-settles_joined choice window bank x y z (Some (Nothing level)) fits leaves settles = settles
-settles_joined choice window bank x y z (Some (Incomplete chosen count)) fits leaves settles = settles
-settles_joined choice window bank x y z (Some Unsettled) fits leaves settles = settles
+pub settles_joined : (choice : Choice) (fills : Fills) (bank : Bank) (x y z : List ℕ) (answer : Option Verdict) → Fits bank x → KeepsBoot (geometry_of bank) x y
+    → IfSome answer (Settles choice fills bank y z) → IfSome answer (Settles choice fills bank x z)
+settles_joined choice fills bank x y z None fits leaves settles = tt
+settles_joined choice fills bank x y z (Some (Installed chosen)) fits leaves settles = (settles.0, whole_joined choice fills bank x y z fits leaves settles.1)
+settles_joined choice fills bank x y z (Some (BadModule id want found)) fits leaves settles = (settles.0, keeps_boot_joined (geometry_of bank) x y z leaves settles.1)
+settles_joined choice fills bank x y z (Some (Nothing level)) fits leaves settles = settles
+settles_joined choice fills bank x y z (Some (Incomplete chosen count)) fits leaves settles = settles
+settles_joined choice fills bank x y z (Some Unsettled) fits leaves settles = settles

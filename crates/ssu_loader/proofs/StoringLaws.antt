@@ -2,8 +2,8 @@
 use Rattle.std.proofs.Common.{◌≡◌, ℕ, ◌+◌, ◌-◌, List, Some, true, sym, ap, subst, ◌∙◌, arith}
 use Rattle.flash_dev.specs.declared.device.Flash.{Ghosts as FlashGhosts}
 use Rattle.flash_bank.specs.Bank.{block_of, current_of, geometry_of, spare_bank}
-use Rattle.flash_bank.specs.Layout.{Geometry, bank_place, blocks_of}
-use Rattle.flash_bank.specs.Pairs.{part}
+use Rattle.flash_layout.specs.Layout.{Geometry, area_place, blocks_of}
+use Rattle.flash_layout.specs.Pairs.{part}
 use Rattle.flash_bank.specs.Sound.{record_in}
 use Rattle.flash_bank.specs.declared.bank.Bank.{Bank}
 use Rattle.flash_bank.specs.declared.record.Record.{Record}
@@ -21,6 +21,8 @@ use Rattle.ssu_loader.specs.Collecting.{Collects, StopsBefore}
 use Rattle.ssu_loader.specs.Decisions.{IsStanding}
 use Rattle.ssu_loader.specs.Storing.{EndsPrev, StandsInSpare, Stores, StoresBefore}
 use Rattle.ssu_loader.proofs.FreshLaws.{same_geometry}
+use Rattle.ssu_loader.proofs.KeptLaws.{window_alone}
+use Rattle.ssu_loader.proofs.WrongLaws.{standing_some}
 
 -- the law of a stage whose places stand in the bank
 abbrev pub InBank : {S : Type 0} → StageGhosts S → Type 0
@@ -38,9 +40,11 @@ module _ {S F : Type 0} (s : StageGhosts S) (f : FlashGhosts F) (law : InBank s)
       let head : record_in g held block ≡ current_of c.bank = ap (record_in g held) same ∙ fits.head in
       let planned : s.plan_of c.stage ≡ outline_of choice.plan = col.gathers.knows.planned choice standing.chosen in
       let own : place_of (s.plan_of c.stage) number ≡ Some place = ap (λ (o : Outline). place_of o number) planned ∙ at in
-      let spare : bank_place g (1 - (record_in g held block).bank) ≡ spare_bank c.bank = ap (λ (r : Record). bank_place g (1 - r.bank)) head in
+      let alone = window_alone me col.gathers.opens heard choice.plan (standing_some me heard standing.stands) in
+      let spare : area_place g (1 - (record_in g held block).bank) ≡ spare_bank c.bank = ap (λ (r : Record). area_place g (1 - r.bank)) head in
       ap (λ (n : ℕ). part held (n + place.at) place.len) spare
-      ∙ (sym (law in_bank c.stage c.bank held number place own) ∙ col.gathers.told tells choice standing.chosen number bytes below fills)
+      ∙ (sym (law in_bank c.stage c.bank held number place own)
+      ∙ (col.gathers.told tells choice standing.chosen).texts number bytes below ((λ i. alone i number) ∙ fills))
 
   gone_of : (heard : List Heard) (c : Collector S) (flash : F) → Collects s f me heard c flash → EndsPrev (geometry_of c.bank) (f.contents flash) me heard
   gone_of heard c flash col some =

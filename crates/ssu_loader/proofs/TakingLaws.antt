@@ -12,7 +12,7 @@ use Rattle.flash_dev.specs.declared.device.Flash.{Ghosts as FlashGhosts}
 use Rattle.flash_dev.specs.Moments.{LeavesOnly}
 use Rattle.flash_dev.proofs.Moments.{joined, weaker}
 use Rattle.flash_bank.specs.Bank.{Fits, geometry_of}
-use Rattle.flash_bank.specs.Layout.{Geometry, blocks_of}
+use Rattle.flash_layout.specs.Layout.{Geometry, blocks_of}
 use Rattle.flash_stage.specs.declared.stage.Stage.{Ghosts as StageGhosts}
 use Rattle.flash_bank.specs.Leaving.{KeepsBoot}
 use Rattle.flash_bank.proofs.LeavingLemmas.{keeps_boot_same}

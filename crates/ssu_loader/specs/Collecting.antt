@@ -8,15 +8,16 @@ use Rattle.flash_stage.specs.declared.stage.Stage.{Ghosts as StageGhosts}
 use Rattle.flash_stage.specs.Outline.{outline_of}
 use Rattle.ts_section.specs.Events.{Heard}
 use Rattle.ssu_group.specs.declared.group_plan.GroupPlan.{GroupPlan}
-use Rattle.ssu_group.specs.Carried.{filling}
+use Rattle.ssu_group.specs.Carried.{Fills, HaveLengths}
 use Rattle.route_tables.specs.Next.{heard_on}
 use Rattle.route_tables.specs.Values.{Receiver}
 use Rattle.ssu_route.specs.declared.change.Change.{Change}
 use Rattle.ssu_route.specs.declared.choice.Choice.{Choice}
 use Rattle.ssu_route.specs.Route.{Stands}
-use Rattle.ssu_route.specs.Windows.{IsChoice, beginnings, change_at, is_one_too_many, window}
+use Rattle.ssu_route.specs.Windows.{IsChoice, beginnings, change_at, is_one_too_many}
 use Rattle.ssu_loader.specs.declared.collector.Collector.{Collector}
 use Rattle.ssu_loader.specs.Decisions.{IsOpen}
+use Rattle.ssu_loader.specs.Opening.{KeepsNothing, fills_at}
 
 -- ---- the stage
 
@@ -28,30 +29,32 @@ pub record Works {S F : Type 0} (s : StageGhosts S) (f : FlashGhosts F) (plan : 
   pub planned : s.plan_of stage ≡ outline_of plan
   pub next_fits : (current_of bank).number < 4294967295
 
--- The places that are staged are those that the sections fill.
-abbrev pub HasFilled : {S : Type 0} → StageGhosts S → GroupPlan → List (List ℕ) → S → Type 0
-HasFilled s plan window stage = (n : ℕ) → n < plan.places → s.has stage n ≡ is_some (filling plan window n)
+-- The places that are staged are those that are kept or filled.
+abbrev pub HasFilled : {S : Type 0} → StageGhosts S → GroupPlan → Fills → S → Type 0
+HasFilled s plan fills stage = (n : ℕ) → n < plan.places → s.has stage n ≡ is_some (fills n)
 
--- For each of them stand the bytes of the first block that fills it.
-abbrev pub HoldsFilling : {S : Type 0} → StageGhosts S → GroupPlan → List (List ℕ) → S → Bank → List ℕ → Type 0
-HoldsFilling s plan window stage bank contents =
-    (n : ℕ) (bytes : List ℕ) → n < plan.places → filling plan window n ≡ Some bytes → s.bytes_at stage bank contents n ≡ bytes
+-- For each of them these bytes stand, and they have its length.
+pub record HoldsFilling {S : Type 0} (s : StageGhosts S) (plan : GroupPlan) (fills : Fills) (stage : S) (bank : Bank)
+    (contents : List ℕ) : Type 0 where
+  pub lengths : HaveLengths plan fills
+  pub texts : (n : ℕ) (bytes : List ℕ) → n < plan.places → fills n ≡ Some bytes → s.bytes_at stage bank contents n ≡ bytes
 
 -- ---- the collector
 
--- Nothing is decided by these sections, and the places that are staged are those that the window of the choice fills.
+-- Nothing is decided by these sections, and the places that are staged are those that the choice keeps or its window fills.
 pub record Knows {S : Type 0} (s : StageGhosts S) (me : Receiver) (heard : List Heard) (c : Collector S) : Type 0 where
   pub undecided : IsOpen me heard
   pub counted : c.choices ≡ beginnings me heard
   pub few : c.choices ≤ 16
   pub planned : (choice : Choice) → IsChoice me heard choice → s.plan_of c.stage ≡ outline_of choice.plan
-  pub filled : (choice : Choice) → IsChoice me heard choice → HasFilled s choice.plan (window me heard) c.stage
+  pub filled : (choice : Choice) → IsChoice me heard choice → HasFilled s choice.plan (fills_at me heard choice.plan) c.stage
 
--- Bank and stage may go on with this flash. Nothing is decided by these sections, and the places that are staged are those that
--- the window of the choice fills; where contents are told, each has the bytes of the first block that fills it. Where a choice began
--- over a stage in the bank, the bank is begun.
+-- Bank and stage may go on with this flash, of which nothing is kept. Nothing is decided by these sections, and the places that
+-- are staged are those that the choice keeps or its window fills; where contents are told, each has the kept bytes or those of the
+-- first block that fills it. Where a choice began over a stage in the bank, the bank is begun.
 pub record Gathers {S F : Type 0} (s : StageGhosts S) (f : FlashGhosts F) (me : Receiver) (heard : List Heard) (c : Collector S)
     (flash : F) : Type 0 where
+  pub opens : KeepsNothing me
   pub len : me.bank_len ≡ len_of c.bank
   pub runs : me.running ≡ (current_of c.bank).software
   pub lent : IsLent f.tells f.contents f.block_count f.block_len c.bank flash
@@ -59,7 +62,8 @@ pub record Gathers {S F : Type 0} (s : StageGhosts S) (f : FlashGhosts F) (me : 
   pub next_fits : (current_of c.bank).number < 4294967295
   pub knows : Knows s me heard c
   pub works : (choice : Choice) → IsChoice me heard choice → Works s f choice.plan c.stage c.bank flash
-  pub told : f.tells → (choice : Choice) → IsChoice me heard choice → HoldsFilling s choice.plan (window me heard) c.stage c.bank (f.contents flash)
+  pub told : f.tells → (choice : Choice) → IsChoice me heard choice
+      → HoldsFilling s choice.plan (fills_at me heard choice.plan) c.stage c.bank (f.contents flash)
   pub begun : s.IN_BANK ≡ true → 1 ≤ c.choices → is_begun c.bank ≡ true
 
 -- The route stands for these sections too.

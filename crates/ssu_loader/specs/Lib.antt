@@ -6,5 +6,6 @@ pub mod Loading
 pub mod Replays
 pub mod Replaying
 pub mod Faults
+pub mod Opening
 pub mod Settling
 pub mod Storing

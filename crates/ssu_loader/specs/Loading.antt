@@ -6,7 +6,7 @@ use Rattle.flash_bank.specs.Bank.{current_of, len_of}
 use Rattle.flash_bank.specs.declared.bank.Bank.{Bank}
 use Rattle.flash_stage.specs.declared.stage.Stage.{Ghosts as StageGhosts}
 use Rattle.ts_section.specs.Hearing.{Hears}
-use Rattle.route_tables.specs.Values.{Receiver}
+use Rattle.route_tables.specs.Values.{Receiver, nothing_open}
 use Rattle.ssu_route.specs.Queries.{followed, heard_by}
 use Rattle.ssu_route.specs.Route.{Stands}
 use Rattle.ssu_loader.specs.declared.loader.Loader.{Loader}
@@ -17,9 +17,9 @@ use Rattle.ssu_loader.specs.Verdicts.{receiver_of}
 abbrev pub bank_of : {S : Type 0} → Loader S → Bank
 bank_of loader = loader.collector.bank
 
--- the box of this file, with the bank of the loader and the software that runs
+-- the box of this file, with the bank of the loader and the software that runs; its stage keeps nothing
 abbrev pub receiver_in : {S : Type 0} → BoxFile → Loader S → Receiver
-receiver_in file loader = receiver_of file (len_of (bank_of loader)) (current_of (bank_of loader)).software
+receiver_in file loader = receiver_of file (len_of (bank_of loader)) (current_of (bank_of loader)).software nothing_open
 
 -- The loader took these packets, and no verdict was reached in them. It may go on with this flash.
 pub record Follows {S F : Type 0} (s : StageGhosts S) (f : FlashGhosts F) (me : Receiver) (ps : List (List ℕ)) (loader : Loader S) (flash : F) : Type 0 where

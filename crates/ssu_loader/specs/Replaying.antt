@@ -1,7 +1,8 @@
 -- What a whole replay does for a box: what it leaves in the flash, and what each answer says.
 use Rattle.std.specs.Prelude.{◌≡◌, ◌≤◌, ◌⊎◌, ◌++◌, ℕ, Bool, List, Some, length, Result, IfErr, IfOk, IsErrOf, IsOkAnd}
 use Rattle.box_file.specs.declared.file.BoxFile.{BoxFile}
-use Rattle.flash_bank.specs.Layout.{Geometry, IsInLimits, len_under}
+use Rattle.flash_layout.specs.Layout.{Geometry, IsInLimits}
+use Rattle.flash_bank.specs.Layout.{len_under}
 use Rattle.flash_bank.specs.Leaving.{KeepsBoot}
 use Rattle.flash_bank.specs.Seen.{FlashSeen}
 use Rattle.flash_bank.specs.Sound.{Boot, BootOf, IsSound, IsWorn}
@@ -10,7 +11,7 @@ use Rattle.ssu_answer.specs.declared.chosen.Chosen.{Chosen}
 use Rattle.ssu_io.specs.Faults.{Rose}
 use Rattle.ssu_io.specs.Seen.{SourceSeen}
 use Rattle.ts_input.specs.Packets.{IsOneMore, IsWithin}
-use Rattle.route_tables.specs.Values.{Receiver}
+use Rattle.route_tables.specs.Values.{Receiver, nothing_open}
 use Rattle.ssu_loader.specs.declared.fault.LoadFault.{LoadFault}
 use Rattle.ssu_loader.specs.declared.fault.LoadFault.TheVariants as load_fault
 use Rattle.ssu_loader.specs.declared.fault.LoadFault.TheVariants.{FlashFault, Foreign, Worn, Memory, ReadFault, TooLong}
@@ -37,7 +38,7 @@ pub record IsReady (flash : FlashSeen) : Type 0 where
 
 -- the box of this file with a flash of these blocks, which runs the software of this record
 abbrev pub receiver_under : BoxFile → Geometry → Record → Receiver
-receiver_under box_file g current = receiver_of box_file (len_under g current) current.software
+receiver_under box_file g current = receiver_of box_file (len_under g current) current.software nothing_open
 
 -- the box of this file with this flash, of which boot takes this
 abbrev pub receiver_at : BoxFile → FlashSeen → Boot → Receiver

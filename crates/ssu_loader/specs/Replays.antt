@@ -3,7 +3,7 @@ use Rattle.std.specs.Prelude.{◌≡◌, ◌⊎◌, ℕ, Bool, true, ◌*◌, �
 use Rattle.ssu_io.specs.Bytes.{Takes}
 use Rattle.ts_input.specs.Packets.{packets, IsAtEnd, IsWithin}
 use Rattle.ts_section.specs.Events.{Heard}
-use Rattle.flash_bank.specs.Layout.{Geometry}
+use Rattle.flash_layout.specs.Layout.{Geometry}
 use Rattle.flash_bank.specs.Leaving.{Installs, KeepsBoot}
 use Rattle.flash_bank.specs.Record.{next_record}
 use Rattle.flash_bank.specs.Sound.{Boot, BootOf}
@@ -90,8 +90,8 @@ abbrev pub ReplayLeaves : Receiver → Option (List ℕ) → Option (List ℕ) �
 ReplayLeaves me left left_after g x y = KeepsBoot g x y ⊎ ((chosen : Chosen) × TakesAndInstalls me left left_after g x y chosen)
 
 -- The verdict of the packets that were taken, which came there, and x became y. Where the places of a group are staged in the
--- bank, those of a choice that stands at the end are there, and those of the sixteenth at one too many; once a choice began, what
--- boot took before is gone.
+-- bank, those of a choice that stands at the end are there, and at one too many those of the one before, where it still stood;
+-- once a choice began, what boot took before the current image is gone.
 abbrev pub EndsWith : Bool → Receiver → Option (List ℕ) → Option (List ℕ) → Geometry → List ℕ → List ℕ → Verdict → Type 0
 EndsWith in_bank me left left_after g x y (Installed chosen) = TakesAndInstalls me left left_after g x y chosen
 EndsWith in_bank me left left_after g x y (Nothing level) =

@@ -8,7 +8,7 @@ use Rattle.flash_bank.specs.Runs.{OnlyReads}
 use Rattle.flash_bank.specs.declared.bank.Bank.{Bank}
 use Rattle.flash_stage.specs.declared.stage.Stage.{Ghosts as StageGhosts}
 use Rattle.flash_stage.specs.Leaving.{SameBank}
-use Rattle.ssu_group.specs.Carried.{CarriesWhole, HasWrong}
+use Rattle.ssu_group.specs.Carried.{CarriesWhole, Fills, HasWrong}
 use Rattle.ssu_route.specs.declared.choice.Choice.{Choice}
 use Rattle.ssu_answer.specs.declared.verdict.Verdict.{Verdict}
 use Rattle.ssu_answer.specs.declared.verdict.Verdict.TheVariants.{Installed, BadModule}
@@ -26,18 +26,18 @@ pub record Stays {S F : Type 0} (s : StageGhosts S) (f : FlashGhosts F) (stage :
 
 -- ---- how it is settled
 
--- The window carries the group whole, and y is x with its image installed.
-pub record InstallsWhole (choice : Choice) (window : List (List ℕ)) (bank : Bank) (x y : List ℕ) : Type 0 where
+-- The group is carried whole, and y is x with its image installed.
+pub record InstallsWhole (choice : Choice) (fills : Fills) (bank : Bank) (x y : List ℕ) : Type 0 where
   pub image : List ℕ
-  pub whole : CarriesWhole choice.plan window image
+  pub whole : CarriesWhole choice.plan fills image
   pub installs : Installs (geometry_of bank) (next_record (current_of bank) choice.plan.total choice.software choice.group) image x y
 
 -- the verdict on the group of the choice, and what became of x
-abbrev pub Settles : Choice → List (List ℕ) → Bank → List ℕ → List ℕ → Verdict → Type 0
-Settles choice window bank x y (Installed chosen) = (chosen ≡ chosen_of choice) × InstallsWhole choice window bank x y
-Settles choice window bank x y (BadModule id want found) = HasWrong choice.plan window id want found × KeepsBoot (geometry_of bank) x y
-Settles choice window bank x y other = ⊥
+abbrev pub Settles : Choice → Fills → Bank → List ℕ → List ℕ → Verdict → Type 0
+Settles choice fills bank x y (Installed chosen) = (chosen ≡ chosen_of choice) × InstallsWhole choice fills bank x y
+Settles choice fills bank x y (BadModule id want found) = HasWrong choice.plan fills id want found × KeepsBoot (geometry_of bank) x y
+Settles choice fills bank x y other = ⊥
 
 -- what may be left of x meanwhile
-abbrev pub SettlingLeaves : Choice → List (List ℕ) → Bank → List ℕ → List ℕ → Type 0
-SettlingLeaves choice window bank x y = KeepsBoot (geometry_of bank) x y ⊎ InstallsWhole choice window bank x y
+abbrev pub SettlingLeaves : Choice → Fills → Bank → List ℕ → List ℕ → Type 0
+SettlingLeaves choice fills bank x y = KeepsBoot (geometry_of bank) x y ⊎ InstallsWhole choice fills bank x y

@@ -1,7 +1,7 @@
 -- The places of a group that stand in the spare bank, and what its erase has ended. Lists of sections have the newest first.
 use Rattle.std.specs.Prelude.{◌≡◌, ℕ, ◌+◌, ◌-◌, ◌<◌, ◌≤◌, List, ◌∷◌, ◌++◌, Some, IsTrue}
-use Rattle.flash_bank.specs.Layout.{Geometry, bank_place}
-use Rattle.flash_bank.specs.Pairs.{part}
+use Rattle.flash_layout.specs.Layout.{Geometry, area_place}
+use Rattle.flash_layout.specs.Pairs.{part}
 use Rattle.flash_bank.specs.Sound.{Boot, IsCurrent, PrevOf, record_in}
 use Rattle.ts_section.specs.Events.{Heard}
 use Rattle.ssu_group.specs.declared.group_plan.GroupPlan.{GroupPlan}
@@ -19,7 +19,7 @@ abbrev pub StandsInSpare : Geometry → List ℕ → GroupPlan → List (List �
 StandsInSpare g contents plan sections =
     (block number : ℕ) (place : Place) (bytes : List ℕ) → IsCurrent g contents block → number < plan.places
     → place_at plan.block_size plan.modules.items number ≡ Some place → filling plan sections number ≡ Some bytes
-    → part contents (bank_place g (1 - (record_in g contents block).bank) + place.at) place.len ≡ bytes
+    → part contents (area_place g (1 - (record_in g contents block).bank) + place.at) place.len ≡ bytes
 
 -- What boot took before the current image is there no longer.
 abbrev pub HasNoPrev : Geometry → List ℕ → Type 0

@@ -7,24 +7,26 @@ use Rattle.ssu_compat.specs.declared.rule.SwId.{SwId}
 use Rattle.ssu_group.specs.declared.group_plan.GroupPlan.{GroupPlan}
 use Rattle.ssu_group.specs.declared.module_plan.ModulePlan.{ModulePlan}
 use Rattle.ssu_group.specs.Carried.{missing_places}
-use Rattle.route_tables.specs.Values.{Receiver}
+use Rattle.route_tables.specs.Values.{Opening, Receiver}
 use Rattle.ssu_route.specs.declared.choice.Choice.{Choice}
 use Rattle.ssu_route.specs.Queries.{missing}
-use Rattle.ssu_route.specs.Windows.{standing, window}
+use Rattle.ssu_route.specs.Windows.{standing}
 use Rattle.ssu_answer.specs.declared.verdict.Verdict.{Verdict}
 use Rattle.ssu_answer.specs.declared.verdict.Verdict.TheVariants.{Installed, Nothing, Incomplete, BadModule, Unsettled}
 use Rattle.ssu_loader.specs.Decisions.{IsStanding, IsOpen, Reaches, Whole, Wrong, TooMany, chosen_of}
+use Rattle.ssu_loader.specs.Opening.{fills_at}
 
--- The box of this file with a bank of this length, while this software runs.
-abbrev pub receiver_of : BoxFile → ℕ → SwId → Receiver
-receiver_of file bank_len running = record { file = file; bank_len = bank_len; running = running }
+-- The box of this file with a bank of this length, while this software runs, where the flash kept this.
+abbrev pub receiver_of : BoxFile → ℕ → SwId → Opening → Receiver
+receiver_of file bank_len running opening =
+    record { file = file; bank_len = bank_len; running = running; opening = opening }
 
--- A choice stands, and so many of its places are not filled.
+-- A choice stands, and so many of its places are neither kept nor filled.
 pub record IsIncomplete (me : Receiver) (heard : List Heard) (chosen : Chosen) (count : ℕ) : Type 0 where
   pub choice : Choice
   pub standing : IsStanding me heard choice
   pub is : chosen ≡ chosen_of choice
-  pub counted : count ≡ missing_places choice.plan (window me heard)
+  pub counted : count ≡ missing_places choice.plan (fills_at me heard choice.plan)
 
 -- What comes of the sections: the first decision, or else what stands after them.
 abbrev pub IsVerdict : Receiver → List Heard → Verdict → Type 0
@@ -34,8 +36,8 @@ IsVerdict me heard (Incomplete chosen count) = IsOpen me heard × IsIncomplete m
 IsVerdict me heard (BadModule id want found) = Reaches me heard (Wrong id want found)
 IsVerdict me heard Unsettled = Reaches me heard TooMany
 
--- The first decision: nothing is decided before this section of all that were heard, and with it the window of this choice,
--- which stands, fills all places of its group.
+-- The first decision: nothing is decided before this section of all that were heard, and with it all places of this choice,
+-- which stands, are kept or filled.
 pub record IsFilled (me : Receiver) (heard : List Heard) (choice : Choice) : Type 0 where
   pub later : List Heard
   pub item : Heard
@@ -43,7 +45,7 @@ pub record IsFilled (me : Receiver) (heard : List Heard) (choice : Choice) : Typ
   pub parts : heard ≡ later ++ item ∷ earlier
   pub undecided : IsOpen me earlier
   pub standing : IsStanding me (item ∷ earlier) choice
-  pub filled : missing_places choice.plan (window me (item ∷ earlier)) ≡ 0
+  pub filled : missing_places choice.plan (fills_at me (item ∷ earlier) choice.plan) ≡ 0
 
 -- A module of the plan with this id and this CRC in its descriptor, which is not the CRC that its bytes were found to have.
 pub record DiffersFrom (plan : GroupPlan) (id want found : ℕ) : Type 0 where
@@ -60,7 +62,7 @@ IsOn choice (BadModule id want found) = DiffersFrom choice.plan id want found
 IsOn choice other = ⊥
 
 -- What an answer says of the sections whether or not the flash tells what it holds: which group it is on, that all its places
--- are filled, and not with which bytes.
+-- are kept or filled, and not with which bytes.
 abbrev pub IsSeen : Receiver → List Heard → Option Verdict → Type 0
 IsSeen me heard None = IsOpen me heard
 IsSeen me heard (Some (Installed chosen)) = (choice : Choice) × (IsFilled me heard choice × IsOn choice (Installed chosen))

@@ -1,12 +1,13 @@
 //! The blocks of a group that was chosen.
 
-ghost use Rattle.std.specs.Prelude.{◌≡◌, ◌∷◌, List, OnOk, ℕ};
+ghost use Rattle.std.specs.Prelude.{◌≡◌, OnOk};
 ghost use Rattle.std.specs.Option.{option_map};
 ghost use Rattle.dsmcc_msg.specs.Block.{ddb};
 ghost use Rattle.dsmcc_msg.specs.View.{ddb_view};
 ghost use Rattle.flash_bank.specs.Bank.{geometry_of};
 ghost use Rattle.flash_bank.specs.Leaving.{KeepsBoot};
 ghost use Rattle.section_form.specs.Section.{IsRight};
+ghost use Rattle.ssu_group.specs.Carried.{Fills, with_section};
 ghost use Rattle.flash_dev.specs.Moments.{LeavesOnly};
 ghost use Rattle.flash_stage.specs.Leaving.{SameBank};
 ghost use Rattle.ssu_io.specs.Faults.{HasCause};
@@ -37,11 +38,11 @@ pub(crate) fn take_block<S: Stage, F: Flash>(
     requires right { IsRight section.now }
     requires works { Works S.Stage F.Flash plan.now stage.old bank.old flash.old }
     ensures works { OnOk result (Works S.Stage F.Flash plan.now stage.new bank.new flash.new) }
-    ensures filled { OnOk result ((window : List (List ℕ)) → HasFilled S.Stage plan.now window stage.old
-        → HasFilled S.Stage plan.now (section.now ∷ window) stage.new) }
-    ensures bytes { F.tells → OnOk result ((window : List (List ℕ)) → HasFilled S.Stage plan.now window stage.old
-        → HoldsFilling S.Stage plan.now window stage.old bank.old (F.contents flash.old)
-        → HoldsFilling S.Stage plan.now (section.now ∷ window) stage.new bank.new (F.contents flash.new)) }
+    ensures filled { OnOk result ((fills : Fills) → HasFilled S.Stage plan.now fills stage.old
+        → HasFilled S.Stage plan.now (with_section plan.now section.now fills) stage.new) }
+    ensures bytes { F.tells → OnOk result ((fills : Fills) → HasFilled S.Stage plan.now fills stage.old
+        → HoldsFilling S.Stage plan.now fills stage.old bank.old (F.contents flash.old)
+        → HoldsFilling S.Stage plan.now (with_section plan.now section.now fills) stage.new bank.new (F.contents flash.new)) }
     ensures held { F.tells → KeepsBoot (geometry_of bank.old) (F.contents flash.old) (F.contents flash.new) }
     ensures left { F.tells → LeavesOnly F.moment F.left_since flash.old flash.new
         (KeepsBoot (geometry_of bank.old) (F.contents flash.old)) }

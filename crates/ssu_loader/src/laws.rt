@@ -1,14 +1,22 @@
 //! What a client may build on, each law as the contract of a function that does nothing.
 
-ghost use Rattle.std.specs.Prelude.{◌≡◌, ◌∷◌, ◌++◌, List, ℕ};
+ghost use Rattle.std.specs.Prelude.{◌≡◌, ◌∷◌, ◌++◌, IsSome, List, Some, true, ℕ};
 ghost use Rattle.flash_bank.specs.Bank.{Fits, geometry_of};
 ghost use Rattle.flash_bank.specs.Leaving.{KeepsBoot};
 ghost use Rattle.flash_bank.specs.declared.bank.Bank.{Bank};
 ghost use Rattle.flash_stage.specs.Leaving.{SameBank};
 ghost use Rattle.ts_section.specs.Events.{Heard};
 ghost use Rattle.route_tables.specs.Values.{Receiver};
-ghost use Rattle.ssu_loader.specs.Decisions.{Decision, Reaches};
+ghost use Rattle.ssu_group.specs.Carried.{filling, nothing_kept};
+ghost use Rattle.ssu_group.specs.declared.group_plan.GroupPlan.{GroupPlan};
+ghost use Rattle.ssu_route.specs.Choosing.{level_7};
+ghost use Rattle.ssu_route.specs.Offers.{dii_of};
+ghost use Rattle.ssu_route.specs.Windows.{beginnings, change_at, window};
+ghost use Rattle.ssu_route.specs.declared.change.Change.TheVariants as change;
+ghost use Rattle.ssu_route.specs.declared.choice.Choice.{Choice};
+ghost use Rattle.ssu_loader.specs.Decisions.{Decision, IsStanding, Reaches};
 ghost use Rattle.ssu_loader.specs.Leaving.{SectionsLeave};
+ghost use Rattle.ssu_loader.specs.Opening.{KeepsNothing, fills_at, is_within, kept, last_message, places_in};
 ghost use Rattle.ssu_loader.specs.Replays.{heard_in};
 
 /// At most one thing is decided by the sections that a box heard, and it stays decided.
@@ -19,6 +27,38 @@ pub fn decisions_are_one()
     // When more bytes come.
     ensures front { (me : Receiver) (front back : List ℕ) (d : Decision) → Reaches me (heard_in me front) d
         → Reaches me (heard_in me (front ++ back)) d }
+{}
+
+/// What a choice keeps when it begins: the places that the flash had of its message at the opening, or those that the choice before
+/// it had kept or filled, if that had the same message.
+pub fn places_are_kept()
+    // Before the first choice it is what was staged at the opening.
+    ensures first { (me : Receiver) (heard : List Heard) (plan : GroupPlan) → beginnings me heard ≡ 0
+        → (last_message me heard ≡ me.opening.message) × (kept me heard plan ≡ me.opening.staged) }
+    // It stays while nothing changes, and all that a choice had is kept where it ends.
+    ensures stays { (me : Receiver) (item : Heard) (heard : List Heard) (plan : GroupPlan) → change_at me item heard ≡ change.Same
+        → kept me (item ∷ heard) plan ≡ kept me heard plan }
+    ensures ends { (me : Receiver) (item : Heard) (heard : List Heard) (plan : GroupPlan) → change_at me item heard ≡ change.Lost
+        → kept me (item ∷ heard) plan ≡ fills_at me heard plan }
+    // A place that the choice has it has while it stands.
+    ensures has { (me : Receiver) (item : Heard) (heard : List Heard) (plan : GroupPlan) (number : ℕ) (bytes : List ℕ)
+        → change_at me item heard ≡ change.Same → IsSome (level_7 me (item ∷ heard))
+        → fills_at me heard plan number ≡ Some bytes → fills_at me (item ∷ heard) plan number ≡ Some bytes }
+    // A choice with that message begins with it, if its group is one that is kept; in all other cases nothing is kept.
+    ensures again { (me : Receiver) (item : Heard) (heard : List Heard) (message : List ℕ) → level_7 me (item ∷ heard) ≡ Some message
+        → (plan : GroupPlan) → change_at me item heard ≡ change.Chosen → last_message me heard ≡ Some message
+        → is_within me.opening.most (places_in (dii_of message)) ≡ true → fills_at me (item ∷ heard) plan ≡ kept me heard plan }
+    ensures anew { (me : Receiver) (item : Heard) (heard : List Heard) (message : List ℕ) → level_7 me (item ∷ heard) ≡ Some message
+        → (plan : GroupPlan) → change_at me item heard ≡ change.Chosen
+        → (last_message me heard ≡ Some message → is_within me.opening.most (places_in (dii_of message)) ≡ true → ⊥)
+        → fills_at me (item ∷ heard) plan ≡ nothing_kept }
+{}
+
+/// Where the flash kept nothing and nothing is kept from one choice for the next, the choice that stands has the places that its
+/// window fills and no other, so that its window alone carries its group.
+pub fn window_counts_alone()
+    ensures { (me : Receiver) (heard : List Heard) (choice : Choice) → KeepsNothing me → IsStanding me heard choice
+        → fills_at me heard choice.plan ≡ filling choice.plan (window me heard) }
 {}
 
 /// What one packet may leave after calls of the stage is what they may leave together, also where the bank is as it was: so

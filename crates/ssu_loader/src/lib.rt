@@ -14,7 +14,7 @@ mod settle;
 mod wrong;
 
 pub use fault::LoadFault;
-pub use laws::{decisions_are_one, packets_go_on};
+pub use laws::{decisions_are_one, packets_go_on, places_are_kept, window_counts_alone};
 pub use loader::Loader;
 pub use replaying::replay;
 pub use ssu_answer::{Chosen, Level, Verdict};

@@ -3,7 +3,7 @@
 ghost use Rattle.std.specs.Prelude.{◌≡◌, ◌↔◌, ◌≤◌, ◌∷◌, [], ℕ, List, IfErr, IfNone, IfOk, IsErrOf, Ok, OnOk, Some, true};
 ghost use Rattle.flash_dev.specs.Moments.{LeavesOnly};
 ghost use Rattle.flash_bank.specs.Bank.{IsLent, geometry_of};
-ghost use Rattle.flash_bank.specs.Layout.{IsInLimits, blocks_of};
+ghost use Rattle.flash_layout.specs.Layout.{IsInLimits, blocks_of};
 ghost use Rattle.flash_bank.specs.Runs.{OnlyReads};
 ghost use Rattle.flash_bank.specs.Sound.{IsSound, IsWorn};
 ghost use Rattle.flash_stage.specs.Leaving.{SameBank};

@@ -1,10 +1,10 @@
 //! What becomes of a group once a block of it was taken.
 
-ghost use Rattle.std.specs.Prelude.{◌≡◌, ◌≤◌, IfNone, IfOk, IfSome, List, None, OnOk, ℕ};
+ghost use Rattle.std.specs.Prelude.{◌≡◌, ◌≤◌, IfNone, IfOk, IfSome, None, OnOk};
 ghost use Rattle.flash_bank.specs.Bank.{IsLent, geometry_of};
 ghost use Rattle.flash_dev.specs.Moments.{LeavesOnly};
 ghost use Rattle.flash_stage.specs.Leaving.{SameBank};
-ghost use Rattle.ssu_group.specs.Carried.{carried_image, missing_places, wrong_module};
+ghost use Rattle.ssu_group.specs.Carried.{Fills, carried_image, missing_places, wrong_module};
 ghost use Rattle.ssu_group.specs.Map.{missing_below};
 ghost use Rattle.ssu_io.specs.Faults.{HasCause};
 ghost use Rattle.ssu_loader.specs.Collecting.{HasFilled, HoldsFilling, Works};
@@ -29,23 +29,23 @@ pub(crate) fn settle<S: Stage, F: Flash>(
 ) -> Result<Option<Verdict>, FlashFault>
     requires works { Works S.Stage F.Flash choice.now.plan stage.old bank.old flash.old }
     // Some place is missing, and nothing was done.
-    ensures missing { (window : List (List ℕ)) → HasFilled S.Stage choice.now.plan window stage.old
-        → IfOk result (λ answer. IfNone answer (1 ≤ missing_places choice.now.plan window)) }
+    ensures missing { (fills : Fills) → HasFilled S.Stage choice.now.plan fills stage.old
+        → IfOk result (λ answer. IfNone answer (1 ≤ missing_places choice.now.plan fills)) }
     ensures same { IfOk result (λ answer. IfNone answer ((stage.new ≡ stage.old) × (bank.new ≡ bank.old) × (flash.new ≡ flash.old))) }
     // The current record stays, unless the group was installed.
     ensures same_bank { UnlessInstalled result (SameBank bank.old bank.new) }
     // No place is missing.
-    ensures whole { (window : List (List ℕ)) → HasFilled S.Stage choice.now.plan window stage.old
-        → IfOk result (λ answer. IfSome answer (λ verdict. IsOn choice.now verdict × (missing_places choice.now.plan window ≡ 0))) }
-    ensures settled { F.tells → (window : List (List ℕ)) → HasFilled S.Stage choice.now.plan window stage.old
-        → HoldsFilling S.Stage choice.now.plan window stage.old bank.old (F.contents flash.old)
-        → IfOk result (λ answer. IfSome answer (Settles choice.now window bank.old (F.contents flash.old) (F.contents flash.new))) }
-    ensures held { F.tells → (window : List (List ℕ)) → HasFilled S.Stage choice.now.plan window stage.old
-        → HoldsFilling S.Stage choice.now.plan window stage.old bank.old (F.contents flash.old)
-        → SettlingLeaves choice.now window bank.old (F.contents flash.old) (F.contents flash.new) }
-    ensures left { F.tells → (window : List (List ℕ)) → HasFilled S.Stage choice.now.plan window stage.old
-        → HoldsFilling S.Stage choice.now.plan window stage.old bank.old (F.contents flash.old)
-        → LeavesOnly F.moment F.left_since flash.old flash.new (SettlingLeaves choice.now window bank.old (F.contents flash.old)) }
+    ensures whole { (fills : Fills) → HasFilled S.Stage choice.now.plan fills stage.old
+        → IfOk result (λ answer. IfSome answer (λ verdict. IsOn choice.now verdict × (missing_places choice.now.plan fills ≡ 0))) }
+    ensures settled { F.tells → (fills : Fills) → HasFilled S.Stage choice.now.plan fills stage.old
+        → HoldsFilling S.Stage choice.now.plan fills stage.old bank.old (F.contents flash.old)
+        → IfOk result (λ answer. IfSome answer (Settles choice.now fills bank.old (F.contents flash.old) (F.contents flash.new))) }
+    ensures held { F.tells → (fills : Fills) → HasFilled S.Stage choice.now.plan fills stage.old
+        → HoldsFilling S.Stage choice.now.plan fills stage.old bank.old (F.contents flash.old)
+        → SettlingLeaves choice.now fills bank.old (F.contents flash.old) (F.contents flash.new) }
+    ensures left { F.tells → (fills : Fills) → HasFilled S.Stage choice.now.plan fills stage.old
+        → HoldsFilling S.Stage choice.now.plan fills stage.old bank.old (F.contents flash.old)
+        → LeavesOnly F.moment F.left_since flash.old flash.new (SettlingLeaves choice.now fills bank.old (F.contents flash.old)) }
     ensures lent { OnOk result (IsLent F.tells F.contents F.block_count F.block_len bank.new flash.new) }
     ensures geometry { geometry_of bank.new ≡ geometry_of bank.old }
     ensures blocks { F.block_count flash.new ≡ F.block_count flash.old }
@@ -73,18 +73,18 @@ fn install<S: Stage, F: Flash>(
     ensures some { IfOk result (λ answer. IfNone answer ⊥) }
     ensures same_bank { UnlessInstalled result (SameBank bank.old bank.new) }
     ensures group { IfOk result (λ answer. IfSome answer (IsOn choice.now)) }
-    ensures settled { F.tells → (window : List (List ℕ)) → HasFilled S.Stage choice.now.plan window stage.old
-        → HoldsFilling S.Stage choice.now.plan window stage.old bank.old (F.contents flash.old)
-        → wrong_module choice.now.plan.modules.items (carried_image choice.now.plan window) ≡ None
-        → IfOk result (λ answer. IfSome answer (Settles choice.now window bank.old (F.contents flash.old) (F.contents flash.new))) }
-    ensures held { F.tells → (window : List (List ℕ)) → HasFilled S.Stage choice.now.plan window stage.old
-        → HoldsFilling S.Stage choice.now.plan window stage.old bank.old (F.contents flash.old)
-        → wrong_module choice.now.plan.modules.items (carried_image choice.now.plan window) ≡ None
-        → SettlingLeaves choice.now window bank.old (F.contents flash.old) (F.contents flash.new) }
-    ensures left { F.tells → (window : List (List ℕ)) → HasFilled S.Stage choice.now.plan window stage.old
-        → HoldsFilling S.Stage choice.now.plan window stage.old bank.old (F.contents flash.old)
-        → wrong_module choice.now.plan.modules.items (carried_image choice.now.plan window) ≡ None
-        → LeavesOnly F.moment F.left_since flash.old flash.new (SettlingLeaves choice.now window bank.old (F.contents flash.old)) }
+    ensures settled { F.tells → (fills : Fills) → HasFilled S.Stage choice.now.plan fills stage.old
+        → HoldsFilling S.Stage choice.now.plan fills stage.old bank.old (F.contents flash.old)
+        → wrong_module choice.now.plan.modules.items (carried_image choice.now.plan fills) ≡ None
+        → IfOk result (λ answer. IfSome answer (Settles choice.now fills bank.old (F.contents flash.old) (F.contents flash.new))) }
+    ensures held { F.tells → (fills : Fills) → HasFilled S.Stage choice.now.plan fills stage.old
+        → HoldsFilling S.Stage choice.now.plan fills stage.old bank.old (F.contents flash.old)
+        → wrong_module choice.now.plan.modules.items (carried_image choice.now.plan fills) ≡ None
+        → SettlingLeaves choice.now fills bank.old (F.contents flash.old) (F.contents flash.new) }
+    ensures left { F.tells → (fills : Fills) → HasFilled S.Stage choice.now.plan fills stage.old
+        → HoldsFilling S.Stage choice.now.plan fills stage.old bank.old (F.contents flash.old)
+        → wrong_module choice.now.plan.modules.items (carried_image choice.now.plan fills) ≡ None
+        → LeavesOnly F.moment F.left_since flash.old flash.new (SettlingLeaves choice.now fills bank.old (F.contents flash.old)) }
     ensures lent { OnOk result (IsLent F.tells F.contents F.block_count F.block_len bank.new flash.new) }
     ensures geometry { geometry_of bank.new ≡ geometry_of bank.old }
     ensures blocks { F.block_count flash.new ≡ F.block_count flash.old }

@@ -1,8 +1,8 @@
 //! The first module that has not the CRC that it should have.
 
-ghost use Rattle.std.specs.Prelude.{◌≡◌, ◌≢◌, Contains, List, None, Some, IfOk, IfSome, MatchOption, OnOk, true, ℕ};
+ghost use Rattle.std.specs.Prelude.{◌≡◌, ◌≢◌, Contains, None, Some, IfOk, IfSome, MatchOption, OnOk, true};
 ghost use Rattle.std.specs.List.{find};
-ghost use Rattle.ssu_group.specs.Carried.{IsWrong, carried_image, is_right, is_wrong};
+ghost use Rattle.ssu_group.specs.Carried.{Fills, IsWrong, carried_image, is_right, is_wrong};
 ghost use Rattle.ssu_group.specs.Map.{missing_below};
 ghost use Rattle.ssu_group.specs.declared.module_plan.ModulePlan.{ModulePlan};
 ghost use Rattle.ssu_io.specs.Faults.{HasCause};
@@ -27,10 +27,10 @@ fn wrong_of<S: Stage, F: Flash>(
     requires whole { missing_below (S.has stage.old) plan.now.places ≡ 0 }
     requires part { Contains plan.now.modules.items part.now }
     ensures works { OnOk result (Works S.Stage F.Flash plan.now stage.new bank.new flash.new) }
-    ensures wrong { F.tells → (window : List (List ℕ)) → HasFilled S.Stage plan.now window stage.old
-        → HoldsFilling S.Stage plan.now window stage.old bank.old (F.contents flash.old)
-        → IfOk result (λ answer. MatchOption answer (is_right (carried_image plan.now window) part.now ≡ true)
-        (λ wrong. IsWrong (carried_image plan.now window) part.now wrong)) }
+    ensures wrong { F.tells → (fills : Fills) → HasFilled S.Stage plan.now fills stage.old
+        → HoldsFilling S.Stage plan.now fills stage.old bank.old (F.contents flash.old)
+        → IfOk result (λ answer. MatchOption answer (is_right (carried_image plan.now fills) part.now ≡ true)
+        (λ wrong. IsWrong (carried_image plan.now fills) part.now wrong)) }
     ensures differs { IfOk result (λ answer. IfSome answer (λ wrong. DiffersFrom plan.now wrong.id wrong.want wrong.found)) }
     ensures stays { Stays S.Stage F.Flash stage.old bank.old flash.old stage.new bank.new flash.new }
     ensures most { S.most stage.new ≡ S.most stage.old }
@@ -62,11 +62,11 @@ pub(crate) fn first_wrong<S: Stage, F: Flash>(
     requires works { Works S.Stage F.Flash plan.now stage.old bank.old flash.old }
     requires whole { missing_below (S.has stage.old) plan.now.places ≡ 0 }
     ensures works { OnOk result (Works S.Stage F.Flash plan.now stage.new bank.new flash.new) }
-    ensures wrong { F.tells → (window : List (List ℕ)) → HasFilled S.Stage plan.now window stage.old
-        → HoldsFilling S.Stage plan.now window stage.old bank.old (F.contents flash.old)
-        → IfOk result (λ answer. MatchOption answer (find (is_wrong (carried_image plan.now window)) plan.now.modules.items ≡ None)
-        (λ wrong. (m : ModulePlan) × (find (is_wrong (carried_image plan.now window)) plan.now.modules.items ≡ Some m)
-        × IsWrong (carried_image plan.now window) m wrong)) }
+    ensures wrong { F.tells → (fills : Fills) → HasFilled S.Stage plan.now fills stage.old
+        → HoldsFilling S.Stage plan.now fills stage.old bank.old (F.contents flash.old)
+        → IfOk result (λ answer. MatchOption answer (find (is_wrong (carried_image plan.now fills)) plan.now.modules.items ≡ None)
+        (λ wrong. (m : ModulePlan) × (find (is_wrong (carried_image plan.now fills)) plan.now.modules.items ≡ Some m)
+        × IsWrong (carried_image plan.now fills) m wrong)) }
     ensures differs { IfOk result (λ answer. IfSome answer (λ wrong. DiffersFrom plan.now wrong.id wrong.want wrong.found)) }
     ensures stays { Stays S.Stage F.Flash stage.old bank.old flash.old stage.new bank.new flash.new }
     ensures most { S.most stage.new ≡ S.most stage.old }

@@ -1,6 +1,6 @@
 -- How many words a command line has.
 use Rattle.std.proofs.Common.{◌≡◌, ℕ, ◌≤◌, ◌<◌, List, [], ◌∷◌, map, length, get_or, suc, arith, ap}
-use Rattle.ssu_status.specs.Words.{IsCommandLine, Task, ToHear, ToLoad, ToFind, ToShow, ToBuild, ToBlank, ToFormat, ToBoot, ToReplay, ToAir, ToAudit, ToAuditWithNotice, ToSample, words_of}
+use Rattle.ssu_status.specs.Words.{IsCommandLine, Task, ToHear, ToLoad, ToFind, ToShow, ToBuild, ToBlank, ToFormat, ToBoot, ToMigrate, ToReplay, ToAir, ToAudit, ToAuditWithNotice, ToSample, words_of}
 
 some_words : (t : Task) → 1 ≤ length (words_of t)
 some_words (ToHear pid) = omega arith
@@ -11,6 +11,7 @@ some_words ToBuild = omega arith
 some_words (ToBlank blocks) = omega arith
 some_words (ToFormat name) = omega arith
 some_words ToBoot = omega arith
+some_words ToMigrate = omega arith
 some_words ToReplay = omega arith
 some_words ToAir = omega arith
 some_words (ToAudit pid) = omega arith
@@ -26,6 +27,7 @@ few_words ToBuild = omega arith
 few_words (ToBlank blocks) = omega arith
 few_words (ToFormat name) = omega arith
 few_words ToBoot = omega arith
+few_words ToMigrate = omega arith
 few_words ToReplay = omega arith
 few_words ToAir = omega arith
 few_words (ToAudit pid) = omega arith

@@ -4,7 +4,7 @@ use Rattle.std.specs.Prelude.{◌≡◌, ◌≢◌, ℕ, ◌<◌, ◌≤◌, Lis
 use Rattle.ssu_io.specs.FileName.{is_file_name}
 use Rattle.ssu_status.specs.declared.command.Command.{Command}
 use Rattle.ssu_status.specs.declared.command.Command.TheVariants.{Hear, Load, Find, Show, Build, Blank, Format, Boot}
-use Rattle.ssu_status.specs.declared.command.Command.TheVariants.{Replay, Air, Audit, AuditWithNotice, Sample}
+use Rattle.ssu_status.specs.declared.command.Command.TheVariants.{Migrate, Replay, Air, Audit, AuditWithNotice, Sample}
 
 -- What the words ask for. A file is given by its name.
 pub data Task : Type 0 where
@@ -16,6 +16,7 @@ pub data Task : Type 0 where
   ToBlank : ℕ → Task
   ToFormat : List ℕ → Task
   ToBoot : Task
+  ToMigrate : Task
   ToReplay : Task
   ToAir : Task
   ToAudit : ℕ → Task
@@ -31,6 +32,7 @@ task_of Build = ToBuild
 task_of (Blank blocks) = ToBlank blocks
 task_of (Format name) = ToFormat name.bytes
 task_of Boot = ToBoot
+task_of Migrate = ToMigrate
 task_of Replay = ToReplay
 task_of Air = ToAir
 task_of (Audit pid) = ToAudit pid
@@ -47,6 +49,7 @@ words_of ToBuild = codes "build" ∷ []
 words_of (ToBlank blocks) = codes "blank" ∷ decimal blocks ∷ []
 words_of (ToFormat name) = codes "format" ∷ name ∷ []
 words_of ToBoot = codes "boot" ∷ []
+words_of ToMigrate = codes "migrate" ∷ []
 words_of ToReplay = codes "replay" ∷ []
 words_of ToAir = codes "air" ∷ []
 words_of (ToAudit pid) = codes "audit" ∷ decimal pid ∷ []
@@ -64,6 +67,7 @@ IsInRange ToBuild = Unit {0}
 IsInRange (ToBlank blocks) = (4 ≤ blocks) × (blocks ≤ 65536)
 IsInRange (ToFormat name) = IsTrue (is_file_name name)
 IsInRange ToBoot = Unit {0}
+IsInRange ToMigrate = Unit {0}
 IsInRange ToReplay = Unit {0}
 IsInRange ToAir = Unit {0}
 IsInRange (ToAudit pid) = pid < 8192
@@ -86,6 +90,7 @@ file_made_by ToBuild = codes "air.ts"
 file_made_by (ToBlank blocks) = codes "flash.bin"
 file_made_by (ToFormat name) = []
 file_made_by ToBoot = codes "image.bin"
+file_made_by ToMigrate = []
 file_made_by ToReplay = []
 file_made_by ToAir = codes "aired.ts"
 file_made_by (ToAudit pid) = []

@@ -28,6 +28,8 @@ pub enum Command {
     Format(FileName),
     /// `boot`: the image that boot takes.
     Boot,
+    /// `migrate`: layout 2 in place of layout 1, with the same image.
+    Migrate,
     /// `replay`: the packets of `air.ts` to the loader of the box.
     Replay,
     /// `air`: the packets of `air.ts` through a script.
@@ -64,6 +66,7 @@ impl Command {
             | Command::Find
             | Command::Show
             | Command::Format(_)
+            | Command::Migrate
             | Command::Replay
             | Command::Audit(_)
             | Command::AuditWithNotice(_, _)
@@ -96,6 +99,7 @@ fn alone(command: &str) -> Option<Command>
         "show" => Some(Command::Show),
         "build" => Some(Command::Build),
         "boot" => Some(Command::Boot),
+        "migrate" => Some(Command::Migrate),
         "replay" => Some(Command::Replay),
         "air" => Some(Command::Air),
         _ => None,

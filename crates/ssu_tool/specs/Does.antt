@@ -4,14 +4,13 @@ use Rattle.std.specs.Prelude.{true, false, Some, None}
 use Rattle.flash_bank.specs.Seen.{FlashSeen}
 use Rattle.ssu_io.specs.Seen.{ShelfSeen, SinkSeen, SourceSeen}
 use Rattle.ssu_status.specs.declared.status.Status.{Status}
-use Rattle.ssu_status.specs.Words.{Task, ToHear, ToLoad, ToFind, ToShow, ToBuild, ToBlank, ToFormat, ToBoot, ToReplay, ToAir}
-use Rattle.ssu_status.specs.Words.{ToAudit, ToAuditWithNotice}
-use Rattle.ssu_status.specs.Words.{ToSample}
+use Rattle.ssu_status.specs.Words.{Task, ToHear, ToLoad, ToFind, ToShow, ToBuild, ToBlank, ToFormat, ToBoot, ToMigrate}
+use Rattle.ssu_status.specs.Words.{ToReplay, ToAir, ToAudit, ToAuditWithNotice, ToSample}
 use Rattle.tool_hear.specs.Does.{HearDoes}
 use Rattle.tool_load.specs.Does.{LoadDoes}
 use Rattle.tool_find.specs.Does.{FindDoes}
 use Rattle.tool_build.specs.Does.{BuildDoes}
-use Rattle.tool_flash.specs.Does.{BlankDoes, BootDoes, FormatDoes}
+use Rattle.tool_flash.specs.Does.{BlankDoes, BootDoes, FormatDoes, MigrateDoes}
 use Rattle.tool_replay.specs.Replay.{Replays}
 use Rattle.tool_air.specs.Does.{AirDoes}
 use Rattle.tool_audit.specs.Does.{AuditDoes}
@@ -34,6 +33,8 @@ Does (ToFormat name) result shelf air flash made out =
     FormatDoes name result shelf flash out × (air.same × made.same)
 Does ToBoot result shelf air flash made out =
     BootDoes result flash made out × (shelf.same × air.same)
+Does ToMigrate result shelf air flash made out =
+    MigrateDoes result flash out × (shelf.same × (air.same × made.same))
 Does ToReplay result shelf air flash made out =
     Replays true result shelf air flash out × made.same
 Does ToAir result shelf air flash made out =

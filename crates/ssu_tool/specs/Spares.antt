@@ -1,7 +1,7 @@
 -- The words `spares S` at the end of a command line.
 use Rattle.std.specs.Prelude.{◌≡◌, ℕ, ◌≤◌, List, [], ◌∷◌, ◌++◌, Option, IfSome, Some, codes, decimal, option_map}
 use Rattle.ssu_status.specs.Words.{IsCommandLine, Task, ToHear, ToLoad, ToFind, ToShow, ToBuild, ToBlank, ToFormat, ToBoot}
-use Rattle.ssu_status.specs.Words.{ToReplay, ToAir, ToAudit, ToAuditWithNotice, ToSample, file_made_by, task_of}
+use Rattle.ssu_status.specs.Words.{ToMigrate, ToReplay, ToAir, ToAudit, ToAuditWithNotice, ToSample, file_made_by, task_of}
 use Rattle.ssu_status.specs.declared.command.Command.{Command}
 
 -- the words end in `spares S`, with S from 1 to 255, and these stand before them
@@ -20,6 +20,7 @@ IsOnFlash ToBuild = ⊥
 IsOnFlash (ToBlank blocks) = ⊥
 IsOnFlash (ToFormat name) = Unit {0}
 IsOnFlash ToBoot = Unit {0}
+IsOnFlash ToMigrate = Unit {0}
 IsOnFlash ToReplay = Unit {0}
 IsOnFlash ToAir = ⊥
 IsOnFlash (ToAudit pid) = ⊥

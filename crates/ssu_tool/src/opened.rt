@@ -1,7 +1,7 @@
-//! A flash with spares since it was handed in.
-ghost use Rattle.std.specs.Prelude.{true, false, ◌≡◌, ◌≤◌, ℕ};
+//! A flash with spares since it was opened.
+ghost use Rattle.std.specs.Prelude.{true, false, ◌≡◌, ◌<◌, ◌≤◌, ◌+◌, ◌^◌, ℕ};
 ghost use Rattle.flash_remap.specs.Layout.{Geometry, geometry_in};
-ghost use Rattle.flash_remap.specs.Seen.{faults_of, geometry_of, inner_of, worn_of};
+ghost use Rattle.flash_remap.specs.Seen.{faults_of, geometry_of, inner_of, left_of, worn_of};
 ghost use Rattle.ssu_io.specs.Faults.{Rose};
 
 use flash_dev::Flash;
@@ -9,20 +9,25 @@ use flash_remap::Remap;
 use ssu_io::Failed;
 use std::marker::{Brand, PhantomData};
 
-/// The flash as it was handed in: how it is parted, and how often it had failed.
+/// The flash with spares as it was opened: how it is parted, how often that beneath had failed, and how many replacements were left.
 pub trait Opening {
     ghost geometry: { Geometry };
 
     ghost count: { ℕ };
+
+    ghost left: { ℕ };
 }
 
 impl Opening for Brand {
     ghost geometry = { geometry_in 0 0 0 };
 
     ghost count = { 0 };
+
+    ghost left = { 0 };
 }
 
-/// A flash with spares since it was handed in. It is parted as then, and its failures are failures of the flash beneath since then.
+/// A flash with spares since it was opened. It is parted as then, and its failures are failures of the flash beneath since then. No
+/// more replacements were used since then than the count of that rose by, and where it is worn, none is left.
 #[derive(Drop)]
 pub struct Opened<F: Flash, K: Opening> {
     remap: Remap<F>,
@@ -31,12 +36,16 @@ pub struct Opened<F: Flash, K: Opening> {
     ghost later: { K.count ≤ F.faults (inner_of remap) },
     ghost failed: { 1 ≤ faults_of remap → Rose K.count (F.faults (inner_of remap)) },
     ghost worn: { worn_of remap ≡ true → Rose K.count (F.faults (inner_of remap)) },
+    ghost fewer: { left_of remap ≤ K.left },
+    ghost uses: { F.faults (inner_of remap) + 1 < 2 ^ 64 → K.left + K.count ≤ left_of remap + F.faults (inner_of remap) },
+    ghost used_up: { worn_of remap ≡ true → left_of remap ≡ 0 },
 }
 
 impl<F: Flash, K: Opening> Opened<F, K> {
     pub(crate) fn of(remap: Remap<F>) -> Opened<F, K>
         requires geometry { geometry_of remap ≡ K.geometry }
-        requires later { K.count ≤ F.faults (inner_of remap) }
+        requires count { F.faults (inner_of remap) ≡ K.count }
+        requires left { left_of remap ≡ K.left }
         requires fresh { faults_of remap ≡ 0 }
         requires goes { worn_of remap ≡ false }
         ensures { result.remap ≡ remap }

@@ -11,7 +11,7 @@ use ssu_status::{Command, FileName};
 pub struct Spared {
     /// S, the number of spares: 1 to 255.
     pub spares: u32,
-    /// The command of the words before, where they are `format FILE`, `boot` or `replay` with their folder.
+    /// The command of the words before, where they are `format FILE`, `boot`, `migrate` or `replay` with their folder.
     pub command: Option<Command>,
 }
 
@@ -69,7 +69,7 @@ fn is_on_flash(command: &Command) -> bool
 {
     matches!(
         command,
-        Command::Format(_) | Command::Boot | Command::Replay
+        Command::Format(_) | Command::Boot | Command::Migrate | Command::Replay
     )
 }
 

@@ -15,7 +15,7 @@ use std::alloc::Global;
 use tool_audit::audit;
 use tool_build::build;
 use tool_find::{find, show};
-use tool_flash::{blank, boot, format};
+use tool_flash::{blank, boot, format, migrate};
 use tool_hear::hear;
 use tool_load::load;
 use tool_replay::replay;
@@ -25,7 +25,7 @@ use tool_sample::sample;
 /// `made`, and what it prints into `out`.
 ///
 /// The words are the folder, a command and its arguments: `hear PID`, `load PID`, `find`, `show`, `build`, `blank N`,
-/// `format FILE`, `boot`, `replay`, `air`, `audit PID`, `audit PID NOTICE` or `sample N`, with a PID and another NOTICE of 0 to 8191, and an N of
+/// `format FILE`, `boot`, `migrate`, `replay`, `air`, `audit PID`, `audit PID NOTICE` or `sample N`, with a PID and another NOTICE of 0 to 8191, and an N of
 /// 4 to 65,536 for `blank` and of 0 to 999,999 for `sample`. `Usage` comes exactly where they are none of these, and the other answers as each
 /// command gives them.
 pub fn run<H: Shelf, A: Source, F: Flash, W: Sink, T: Sink>(
@@ -82,6 +82,7 @@ pub(crate) fn dispatch<H: Shelf, A: Source, F: Flash, W: Sink, T: Sink>(
         Command::Blank(blocks) => blank(blocks, made, out),
         Command::Format(name) => format(alloc, &name, shelf, flash, out),
         Command::Boot => boot(flash, made, out),
+        Command::Migrate => migrate(flash, out),
         Command::Replay => replay::<H, A, F, T, BankStage>(alloc, shelf, air, flash, out),
         Command::Air => tool_air::air(alloc, shelf, air, made, out),
         Command::Audit(pid) => audit(alloc, pid, None, air, out),

@@ -50,10 +50,6 @@ abbrev pub OnStop : Step → (AuditNo → Type 0) → Type 0
 OnStop (step.Fact why) fact = fact why
 OnStop other fact = Unit {0}
 
-abbrev pub OnFull : Step → Type 0 → Type 0
-OnFull step.Full fact = fact
-OnFull other fact = Unit {0}
-
 abbrev pub OnFact : Ended → (AuditNo → Type 0) → Type 0
 OnFact (ended.Fact why) fact = fact why
 OnFact other fact = Unit {0}

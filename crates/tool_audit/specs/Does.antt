@@ -1,5 +1,5 @@
 -- What `audit PID` and `audit PID NOTICE` do: they hear a carousel on one PID, and its notice on the other, and print whether
--- every receiver makes one image of each group, or the first fact against that.
+-- all receivers that have a group whole have one image of it, or the first fact for which that is refused.
 use Rattle.std.specs.Prelude.{ℕ, ◌≤◌, ◌⊎◌, Option, Result, Ok, Err}
 use Rattle.audit_answer.specs.declared.answers.AuditNo.{AuditNo}
 use Rattle.audit_answer.specs.declared.answers.AuditYes.{AuditYes}

@@ -16,7 +16,8 @@ use ts_packet::Pid;
 use ts_section::{Hearer, SectionOut};
 
 /// Hears the carousel on a PID, and its notice on another, and prints one line into `out`: `audit ok groups G blocks B` where
-/// every receiver of what was heard makes one image of each group of the DSI, or the first fact against that.
+/// all receivers of some of what was heard that have a group of the DSI whole have one image of it, or the first fact for which
+/// that is refused.
 ///
 /// `Done`, or `AuditRefused` with the fact: at the packet at which a section is the first that a fact stands against, behind
 /// which nothing is taken, else at the end of the input. `NoMemory` before the first packet, or at a packet that has

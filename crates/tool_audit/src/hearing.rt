@@ -5,7 +5,7 @@ ghost use Rattle.ssu_audit.specs.Calls.{Call};
 ghost use Rattle.ssu_audit.specs.Hearing.{IsOpen};
 ghost use Rattle.ssu_audit.specs.Standing.{IsUsable, Stands};
 ghost use Rattle.ssu_io.specs.Faults.{Rose};
-ghost use Rattle.tool_audit.specs.Answers.{OnFact, OnFault, OnFull, OnInput, OnMemory, OnMore, OnStop, OnTooLong};
+ghost use Rattle.tool_audit.specs.Answers.{OnFact, OnFault, OnInput, OnMemory, OnMore, OnStop, OnTooLong};
 ghost use Rattle.tool_audit.specs.Calls.{calls_of, pids_of};
 ghost use Rattle.tool_audit.specs.Comes.{HasFact, HearsAtPacket, HearsIn};
 ghost use Rattle.tool_audit.specs.Following.{Follows, onto};

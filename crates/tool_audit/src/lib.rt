@@ -1,4 +1,4 @@
-//! The command `audit`: whether every receiver of a stream makes one image of each group of its carousel.
+//! The command `audit`: whether all receivers of a stream that have a group of its carousel whole have one image of it.
 #![tactic(auto)]
 
 mod command;

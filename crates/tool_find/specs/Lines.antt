@@ -9,7 +9,7 @@ use Rattle.ssu_line.specs.LevelLines.{services_line, program_line, component_lin
 use Rattle.ssu_line.specs.SectionLine.{shown_line}
 use Rattle.ts_packet.specs.Packet.{pid_of}
 use Rattle.ts_section.specs.Events.{Feed, heard}
-use Rattle.route_tables.specs.Values.{Receiver}
+use Rattle.route_tables.specs.Values.{Receiver, nothing_open}
 use Rattle.ssu_route.specs.declared.report.Report.{Report}
 use Rattle.ssu_route.specs.Queries.{followed, heard_by, report}
 use Rattle.ts_section.specs.Hearing.{Hears}
@@ -18,7 +18,7 @@ use Rattle.tool_find.specs.declared.walk.Walk.{Walk}
 
 -- The box of the file, without a flash. The software that the file names runs on it.
 abbrev pub receiver_of : BoxFile → Receiver
-receiver_of file = record { file = file; bank_len = bank_len; running = file.software }
+receiver_of file = record { file = file; bank_len = bank_len; running = file.software; opening = nothing_open }
 
 -- a line for each of the seven levels
 abbrev pub report_lines : Report → List ℕ

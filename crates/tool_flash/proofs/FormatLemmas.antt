@@ -2,7 +2,7 @@
 use Rattle.std.proofs.Common.{◌≡◌, ℕ, List, length, ap, refl, subst, ◌∙◌}
 use Rattle.std.specs.Prelude.{Option, Some, None, IsSome, Ok, Err}
 use Rattle.box_file.specs.declared.file.BoxFile.{BoxFile}
-use Rattle.flash_bank.specs.Format.{Formats, first_record}
+use Rattle.flash_bank.specs.Format.{Formats, first_record, layout_for}
 use Rattle.flash_bank.specs.Seen.{FlashSeen}
 use Rattle.flash_bank.specs.declared.record.Record.{Record}
 use Rattle.ssu_compat.specs.declared.rule.SwId.{SwId}
@@ -17,7 +17,7 @@ use Rattle.tool_flash.specs.Formatting.{Puts}
 
 pub puts : (Prints : Option (List ℕ) → Option (List ℕ) → List ℕ → Type 0) (software : SwId) (slice image : List ℕ)
     (flash : FlashSeen) (out : SinkSeen) (head : Record) (line : List ℕ)
-    → slice ≡ image → head ≡ first_record (length slice) software → line ≡ formatted_line head.length
+    → slice ≡ image → head ≡ first_record (layout_for flash.blocks) (length slice) software → line ≡ formatted_line head.length
     → (flash.tells → Formats flash.blocks head slice flash.contents flash.contents_after) → Prints out.got out.got_after line
     → Puts Prints software image flash out
 puts Prints software slice image flash out head line same is printed formats prints =

@@ -1,3 +1,4 @@
 mod BlankLemmas
 mod FormatLemmas
+mod MigrateLemmas
 pub mod StatusLaws

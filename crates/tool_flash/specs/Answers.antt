@@ -1,7 +1,7 @@
 -- Which statuses may come, and facts for several of them.
 use Rattle.ssu_status.specs.declared.status.Status.{Status}
 use Rattle.ssu_status.specs.declared.status.Status.TheVariants.{Done, Absent, BoxRefused, FlashFault, Foreign, Geometry}
-use Rattle.ssu_status.specs.declared.status.Status.TheVariants.{NoFit, NoMemory, ShelfFault, WriteFault}
+use Rattle.ssu_status.specs.declared.status.Status.TheVariants.{NoFit, NoMemory, ShelfFault, Worn, WriteFault}
 
 abbrev pub OnFlashFault : Status → Type 0 → Type 0
 OnFlashFault FlashFault fact = fact
@@ -10,6 +10,14 @@ OnFlashFault other fact = Unit {0}
 abbrev pub OnForeign : Status → Type 0 → Type 0
 OnForeign Foreign fact = fact
 OnForeign other fact = Unit {0}
+
+abbrev pub OnWorn : Status → Type 0 → Type 0
+OnWorn Worn fact = fact
+OnWorn other fact = Unit {0}
+
+abbrev pub OnNoFit : Status → Type 0 → Type 0
+OnNoFit NoFit fact = fact
+OnNoFit other fact = Unit {0}
 
 -- ---- boot
 
@@ -76,3 +84,15 @@ OnUntouched Done fact = Unit {0}
 OnUntouched FlashFault fact = Unit {0}
 OnUntouched WriteFault fact = Unit {0}
 OnUntouched other fact = fact
+
+-- ---- migrate
+
+abbrev pub IsMigrateAnswer : Status → Type 0
+IsMigrateAnswer Done = Unit {0}
+IsMigrateAnswer Geometry = Unit {0}
+IsMigrateAnswer FlashFault = Unit {0}
+IsMigrateAnswer Foreign = Unit {0}
+IsMigrateAnswer Worn = Unit {0}
+IsMigrateAnswer NoFit = Unit {0}
+IsMigrateAnswer WriteFault = Unit {0}
+IsMigrateAnswer other = ⊥

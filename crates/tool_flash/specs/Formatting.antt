@@ -1,8 +1,8 @@
 -- What `format` is told, and what it does.
 use Rattle.std.specs.Prelude.{◌≡◌, ◌↔◌, ◌⊎◌, ℕ, ◌<◌, List, length, Option}
 use Rattle.box_file.specs.declared.file.BoxFile.{BoxFile}
-use Rattle.flash_bank.specs.Format.{Formats, first_record}
-use Rattle.flash_bank.specs.Layout.{Geometry as Shape, IsInLimits, bank_len}
+use Rattle.flash_bank.specs.Format.{Formats, first_record, layout_for}
+use Rattle.flash_layout.specs.Layout.{Geometry as Shape, IsInLimits, bank_len}
 use Rattle.flash_bank.specs.Seen.{FlashSeen}
 use Rattle.ssu_compat.specs.declared.rule.SwId.{SwId}
 use Rattle.ssu_line.specs.Lines.{formatted_line}
@@ -30,7 +30,7 @@ IsFirstAbsent held name told =
 -- the answer for an image: exactly where the flash is out of the limits, and exactly where the image is longer than a bank
 pub record Judged (g : Shape) (image : List ℕ) (status : Status) : Type 0 where
   pub geometry : (status ≡ Geometry) ↔ (IsInLimits g → ⊥)
-  pub no_fit : (status ≡ NoFit) ↔ (IsInLimits g × (bank_len g < length image))
+  pub no_fit : (status ≡ NoFit) ↔ (IsInLimits g × (bank_len g (layout_for g) < length image))
 
 pub record Judges (held : Option (List File)) (name : List ℕ) (g : Shape) (status : Status) : Type 0 where
   pub software : SwId
@@ -42,7 +42,7 @@ pub record Judges (held : Option (List File)) (name : List ℕ) (g : Shape) (sta
 pub record Puts (Prints : Option (List ℕ) → Option (List ℕ) → List ℕ → Type 0) (software : SwId) (image : List ℕ)
     (flash : FlashSeen) (out : SinkSeen) : Type 0 where
   pub formats : flash.tells
-      → Formats flash.blocks (first_record (length image) software) image flash.contents flash.contents_after
+      → Formats flash.blocks (first_record (layout_for flash.blocks) (length image) software) image flash.contents flash.contents_after
   pub prints : Prints out.got out.got_after (formatted_line (length image))
 
 -- The flash is formatted with the files of the shelf.

@@ -1,8 +1,8 @@
 //! `format FILE`: a flash with the image in a file.
 ghost use Rattle.std.specs.Prelude.{◌≡◌, ◌≤◌, IfOk, IfErr};
 ghost use Rattle.box_file.specs.declared.file.BoxFile.{BoxFile};
-ghost use Rattle.flash_bank.specs.Format.{SameOutsideFirst};
-ghost use Rattle.flash_bank.specs.Layout.{blocks_of};
+ghost use Rattle.flash_bank.specs.Format.{SameOutsideFirst, layout_for};
+ghost use Rattle.flash_layout.specs.Layout.{blocks_of};
 ghost use Rattle.flash_bank.specs.Runs.{OnlyReads};
 ghost use Rattle.flash_bank.specs.Seen.{flash_seen};
 ghost use Rattle.ssu_io.specs.Bytes.{Gains, GainsPrefix};
@@ -89,7 +89,7 @@ fn put_first<F: Flash, T: Sink>(files: &Files, flash: &mut F, out: &mut T) -> St
     ensures write_cause { OnWriteFault result (Rose (T.faults out.old) (T.faults out.new)) }
     ensures answers { IsPutAnswer result }
     ensures flash_fault { OnFlashFault result (F.tells
-        → SameOutsideFirst (blocks_of F.Flash flash.old) (F.contents flash.old) (F.contents flash.new)) }
+        → SameOutsideFirst (blocks_of F.Flash flash.old) (layout_for (blocks_of F.Flash flash.old)) (F.contents flash.old) (F.contents flash.new)) }
     ensures untouched { OnUntouched result
         (OnlyReads F.tells F.contents F.block_count F.block_len F.moment F.left_since flash.old flash.new) }
     ensures unprinted { OnUnprinted result (out.new ≡ out.old) }

@@ -1,16 +1,16 @@
 //! `hear PID`: the right whole sections of one PID, joined.
-ghost use Rattle.std.specs.Prelude.{◌≡◌, ◌≤◌, ◌++◌, [], ◌∷◌, IfOk, OnOk, OnErr};
+ghost use Rattle.std.specs.Prelude.{◌≡◌, ◌≤◌, ◌++◌, [], IfOk, OnOk, OnErr};
 ghost use Rattle.std.specs.List.{concat};
 ghost use Rattle.ts_input.specs.Puts.{Puts, PutsOfMost, PutsPrefix};
 ghost use Rattle.ssu_io.specs.Bytes.{GainsPrefix};
 ghost use Rattle.ssu_io.specs.Faults.{HasCause, Rose};
 ghost use Rattle.ssu_io.specs.SinkBuffer.{MovesOn};
 ghost use Rattle.ssu_status.specs.Answers.{IsEndOfInput};
-ghost use Rattle.ssu_status.specs.Status.{OnDone, OnReadFault, OnWriteFault, OnTooLong, OnNoMemory};
+ghost use Rattle.ssu_status.specs.Status.{OnDone, OnReadFault, OnTooLong};
 ghost use Rattle.ssu_io.specs.Seen.{sink_seen, source_seen};
 ghost use Rattle.tool_hear.specs.Does.{HearDoes};
 ghost use Rattle.ts_input.specs.Packets.{IsAtEnd};
-ghost use Rattle.ts_section.specs.Events.{Listen, hear as hear_text};
+ghost use Rattle.ts_section.specs.Events.{hear as hear_text};
 ghost use Rattle.ts_section.specs.Hearing.{Hears};
 
 use ssu_io::{Failed, NoMemory, Sink, SinkBuffer, Source};

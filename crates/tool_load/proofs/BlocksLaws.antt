@@ -103,7 +103,7 @@ holds_again plan image window section d p e f there holds =
 -- ---- how many are missing, and the image
 
 pub missing_is : (plan : GroupPlan) (image : Collected) (window : List (List ℕ)) → IsFor plan image → Holds plan image window
-    → missing_in image ≡ missing_places plan window
+    → missing_in image ≡ missing_places plan (filling plan window)
 missing_is plan image window is holds =
     ap (missing_below (is_there image)) is.places
     ∙ missing_same (λ n. is_some (filling plan window n)) (is_there image) plan.places (λ n below. holds.there n below)
@@ -112,8 +112,8 @@ value_of : (o : Option (List ℕ)) → is_some o ≡ true → (b : List ℕ) × 
 value_of None h = absurd cc
 value_of (Some b) h = (b, refl)
 
-pub image_is : (plan : GroupPlan) (image : Collected) (window : List (List ℕ)) → IsFor plan image → Holds plan image window → missing_places plan window ≡ 0
-    → image_of image ≡ carried_image plan window
+pub image_is : (plan : GroupPlan) (image : Collected) (window : List (List ℕ)) → IsFor plan image → Holds plan image window → missing_places plan (filling plan window) ≡ 0
+    → image_of image ≡ carried_image plan (filling plan window)
 image_is plan image window is holds none =
     sym (joined_image plan image (λ n. unwrap_or (filling plan window n) []) is (λ n below.
     let some = value_of (filling plan window n) (all_marked (λ (k : ℕ). is_some (filling plan window k)) plan.places none n below) in

@@ -4,14 +4,14 @@ use Rattle.ts_input.specs.Packets.{IsAtEnd, IsWithin}
 use Rattle.ssu_answer.specs.declared.level.Level.{Level}
 use Rattle.ssu_answer.specs.declared.level.Level.TheVariants.{Linkage, Program, Component, Notice, Window, Group, Modules}
 use Rattle.ssu_answer.specs.declared.chosen.Chosen.{Chosen}
-use Rattle.ssu_group.specs.Carried.{missing_places}
+use Rattle.ssu_group.specs.Carried.{filling, missing_places}
 use Rattle.tool_load.specs.declared.progress.Progress.{Progress}
 use Rattle.ssu_answer.specs.declared.verdict.Verdict.{Verdict}
 use Rattle.ssu_answer.specs.declared.verdict.Verdict.TheVariants.{Installed, Nothing, Incomplete, BadModule, Unsettled}
 use Rattle.tool_load.specs.Load.{IsReached, IsOpen, IsNothing, IsIncomplete, IsVerdict, HearsIn, HearsAtPacket, ComesOf}
 use Rattle.tool_load.specs.Progress.{StandsFor}
 use Rattle.tool_load.proofs.SearchLaws.{no_group_chosen, wanted_chosen}
-use Rattle.ssu_group.proofs.SamePlans.{same_missing}
+use Rattle.ssu_group.proofs.SamePlans.{same_filling, same_missing}
 use Rattle.tool_load.proofs.PlanLaws.{one_choice}
 
 reached_nothing : (sections : List (List ℕ)) (level : Level) → IsReached sections → IsNothing sections level → ⊥
@@ -26,7 +26,8 @@ reached_nothing sections Modules is none = wanted_chosen sections none.0 is.grou
 reached_incomplete : (sections : List (List ℕ)) (chosen : Chosen) (missing : ℕ) → IsReached sections → IsIncomplete sections chosen missing → ⊥
 reached_incomplete sections chosen missing is other =
     let one = one_choice sections is.group chosen.group is.plan other.plan is.window other.window is.chooses other.chooses in
-    let none : missing ≡ 0 = other.count ∙ same_missing other.plan is.plan other.window one.is_plan ∙ ap (missing_places is.plan) one.is_window ∙ is.filled in
+    let none : missing ≡ 0 = other.count ∙ same_missing other.plan is.plan (filling other.plan other.window) (filling is.plan other.window) one.is_plan
+    (λ n. same_filling other.plan is.plan other.window n one.is_plan) ∙ ap (λ (w : List (List ℕ)). missing_places is.plan (filling is.plan w)) one.is_window ∙ is.filled in
     absurd (omega (arith, none, other.some))
 
 abbrev Tells : Verdict → (List (List ℕ) → Type 0) → Type 0

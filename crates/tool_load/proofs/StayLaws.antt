@@ -16,7 +16,7 @@ value_of None h = absurd cc
 value_of (Some b) h = (b, refl)
 
 -- where all places are filled, each keeps its bytes
-filling_stays : (plan : GroupPlan) (window : List (List ℕ)) (section : List ℕ) → missing_places plan window ≡ 0 → (n : ℕ) → n < plan.places
+filling_stays : (plan : GroupPlan) (window : List (List ℕ)) (section : List ℕ) → missing_places plan (filling plan window) ≡ 0 → (n : ℕ) → n < plan.places
     → filling plan (section ∷ window) n ≡ filling plan window n
 unfolding filling
 filling_stays plan window section filled n below =
@@ -25,7 +25,7 @@ filling_stays plan window section filled n below =
     ∙ ap (λ (o : Option (List ℕ)). option_or o (brings plan n section)) some.1
     ∙ sym some.1
 
-filled_stays : (plan : GroupPlan) (window : List (List ℕ)) (section : List ℕ) → missing_places plan window ≡ 0 → missing_places plan (section ∷ window) ≡ 0
+filled_stays : (plan : GroupPlan) (window : List (List ℕ)) (section : List ℕ) → missing_places plan (filling plan window) ≡ 0 → missing_places plan (filling plan (section ∷ window)) ≡ 0
 filled_stays plan window section filled =
     missing_same (λ (n : ℕ). is_some (filling plan window n)) (λ (n : ℕ). is_some (filling plan (section ∷ window) n)) plan.places
     (λ n below. ap is_some (filling_stays plan window section filled n below))
@@ -38,8 +38,8 @@ joined_same f g (suc n) same =
     ap (λ (xs : List ℕ). xs ++ f n) (joined_same f g n (λ k below. same k (omega (arith, below))))
     ∙ ap (λ (xs : List ℕ). joined g n ++ xs) (same n (omega arith))
 
-image_stays : (plan : GroupPlan) (window : List (List ℕ)) (section : List ℕ) → missing_places plan window ≡ 0
-    → carried_image plan window ≡ carried_image plan (section ∷ window)
+image_stays : (plan : GroupPlan) (window : List (List ℕ)) (section : List ℕ) → missing_places plan (filling plan window) ≡ 0
+    → carried_image plan (filling plan window) ≡ carried_image plan (filling plan (section ∷ window))
 image_stays plan window section filled =
     joined_same (λ (n : ℕ). unwrap_or (filling plan window n) []) (λ (n : ℕ). unwrap_or (filling plan (section ∷ window) n) []) plan.places
     (λ n below. ap (λ (o : Option (List ℕ)). unwrap_or o []) (sym (filling_stays plan window section filled n below)))
@@ -59,7 +59,7 @@ loaded_stays section sections chosen image is = record {
 
 pub bad_stays : (section : List ℕ) (sections : List (List ℕ)) (id want found : ℕ) → IsBad sections id want found → IsBad (section ∷ sections) id want found
 bad_stays section sections id want found is =
-    let image : carried_image is.plan is.window ≡ carried_image is.plan (section ∷ is.window) = image_stays is.plan is.window section is.wrong.filled in
+    let image : carried_image is.plan (filling is.plan is.window) ≡ carried_image is.plan (filling is.plan (section ∷ is.window)) = image_stays is.plan is.window section is.wrong.filled in
     record {
       group = is.group;
       plan = is.plan;

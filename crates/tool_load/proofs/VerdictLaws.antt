@@ -7,7 +7,7 @@ use Rattle.ssu_answer.specs.declared.chosen.Chosen.{Chosen}
 use Rattle.ssu_group.specs.declared.module_plan.ModulePlan.{ModulePlan}
 use Rattle.ssu_group.specs.declared.group_plan.GroupPlan.{GroupPlan}
 use Rattle.ssu_group.specs.Plan.{are_joined, size_of}
-use Rattle.ssu_group.specs.Carried.{IsWrong, is_wrong, wrong_module, missing_places, carried_image, module_bytes}
+use Rattle.ssu_group.specs.Carried.{IsWrong, carried_image, filling, is_wrong, missing_places, module_bytes, wrong_module}
 use Rattle.ssu_group.proofs.PlaceLaws.{begin_joined}
 use Rattle.group_image.specs.Image.{missing_in, image_of}
 use Rattle.tool_load.specs.declared.blocks.Blocks.{Blocks}
@@ -39,7 +39,7 @@ modules_inside plan k d below =
 
 -- ---- the verdicts
 
-count_is : (blocks : Blocks) (sections : List (List ℕ)) → (is : Collects blocks sections) → missing_in blocks.image ≡ missing_places blocks.plan is.window
+count_is : (blocks : Blocks) (sections : List (List ℕ)) → (is : Collects blocks sections) → missing_in blocks.image ≡ missing_places blocks.plan (filling blocks.plan is.window)
 count_is blocks sections is = missing_is blocks.plan blocks.image is.window blocks.is_for is.holds
 
 pub incomplete_is : (blocks : Blocks) (sections : List (List ℕ)) (chosen : Chosen) (missing : ℕ) → Collects blocks sections → chosen ≡ chosen_of blocks.group blocks.plan
@@ -58,7 +58,7 @@ pub loaded_is : (blocks : Blocks) (sections : List (List ℕ)) (chosen : Chosen)
     → missing_in blocks.image ≡ 0 → find (is_wrong (image_of blocks.image)) blocks.plan.modules.items ≡ None → IsLoaded sections chosen (image_of blocks.image)
 unfolding wrong_module
 loaded_is blocks sections chosen is e none right =
-    let filled : missing_places blocks.plan is.window ≡ 0 = sym (count_is blocks sections is) ∙ none in
+    let filled : missing_places blocks.plan (filling blocks.plan is.window) ≡ 0 = sym (count_is blocks sections is) ∙ none in
     subst (λ (c : Chosen). IsLoaded sections c (image_of blocks.image)) (sym e) (record {
       plan = blocks.plan;
       window = is.window;
@@ -76,8 +76,8 @@ pub bad_is : (blocks : Blocks) (sections : List (List ℕ)) (m : ModulePlan) (wr
     → IsBad sections wrong.id wrong.want wrong.found
 unfolding wrong_module
 bad_is blocks sections m wrong is none first wrong_is =
-    let filled : missing_places blocks.plan is.window ≡ 0 = sym (count_is blocks sections is) ∙ none in
-    let image : image_of blocks.image ≡ carried_image blocks.plan is.window = image_is blocks.plan blocks.image is.window blocks.is_for is.holds filled in
+    let filled : missing_places blocks.plan (filling blocks.plan is.window) ≡ 0 = sym (count_is blocks sections is) ∙ none in
+    let image : image_of blocks.image ≡ carried_image blocks.plan (filling blocks.plan is.window) = image_is blocks.plan blocks.image is.window blocks.is_for is.holds filled in
     record {
       group = blocks.group;
       plan = blocks.plan;

@@ -1,5 +1,6 @@
 -- The image that is collected, whose bytes end behind the last place that came.
-use Rattle.std.specs.Prelude.{◌≡◌, ℕ, ◌+◌, ◌-◌, ◌<◌, ◌≤◌, true, false, ◌||◌, ◌==◌, List, ◌++◌, length, take, drop, replicate}
+use Rattle.std.specs.Prelude.{◌≡◌, ℕ, ◌+◌, ◌-◌, ◌<◌, ◌≤◌, true, false, ◌||◌, ◌==◌}
+use Rattle.std.specs.Prelude.{List, ◌++◌, length, take, drop, replicate}
 use Rattle.ts_crc.specs.Crc.{after_bytes, crc_of}
 use Rattle.crc_join.specs.Block.{block_of}
 use Rattle.ssu_group.specs.declared.places.Place.{Place}

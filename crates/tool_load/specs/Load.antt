@@ -14,7 +14,7 @@ use Rattle.ssu_answer.specs.declared.level.Level.TheVariants.{Group, Modules}
 use Rattle.ssu_group.specs.declared.group_plan.GroupPlan.{GroupPlan}
 use Rattle.ssu_group.specs.Refusal.{refusal}
 use Rattle.ssu_group.specs.Lays.{IsPlanOf}
-use Rattle.ssu_group.specs.Carried.{CarriesWhole, HasWrong, missing_places}
+use Rattle.ssu_group.specs.Carried.{CarriesWhole, HasWrong, filling, missing_places}
 use Rattle.ssu_answer.specs.declared.verdict.Verdict.{Verdict}
 use Rattle.ssu_answer.specs.declared.verdict.Verdict.TheVariants.{Installed, Nothing, Incomplete, BadModule, Unsettled}
 
@@ -75,7 +75,7 @@ pub record IsReached (sections : List (List ℕ)) : Type 0 where
   pub plan : GroupPlan
   pub window : List (List ℕ)
   pub chooses : Chooses sections group plan window
-  pub filled : missing_places plan window ≡ 0
+  pub filled : missing_places plan (filling plan window) ≡ 0
 
 -- ---- the verdict
 
@@ -89,7 +89,7 @@ pub record IsLoaded (sections : List (List ℕ)) (chosen : Chosen) (image : List
   pub window : List (List ℕ)
   pub chooses : Chooses sections chosen.group plan window
   pub is : chosen ≡ chosen_of chosen.group plan
-  pub whole : CarriesWhole plan window image
+  pub whole : CarriesWhole plan (filling plan window) image
 
 -- So many places of the group are not filled.
 pub record IsIncomplete (sections : List (List ℕ)) (chosen : Chosen) (missing : ℕ) : Type 0 where
@@ -97,7 +97,7 @@ pub record IsIncomplete (sections : List (List ℕ)) (chosen : Chosen) (missing 
   pub window : List (List ℕ)
   pub chooses : Chooses sections chosen.group plan window
   pub is : chosen ≡ chosen_of chosen.group plan
-  pub count : missing ≡ missing_places plan window
+  pub count : missing ≡ missing_places plan (filling plan window)
   pub some : 1 ≤ missing
 
 -- All places are filled, and this is the first module, in the order of the DII, that has not the CRC of its descriptor.
@@ -106,7 +106,7 @@ pub record IsBad (sections : List (List ℕ)) (id want found : ℕ) : Type 0 whe
   pub plan : GroupPlan
   pub window : List (List ℕ)
   pub chooses : Chooses sections group plan window
-  pub wrong : HasWrong plan window id want found
+  pub wrong : HasWrong plan (filling plan window) id want found
 
 -- The group is wanted, and none of its DIIs that can be used was heard.
 pub record IsWanted (group : ℕ) (sections : List (List ℕ)) : Type 0 where

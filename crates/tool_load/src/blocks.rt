@@ -1,10 +1,6 @@
 //! The blocks of a group that was chosen.
 
-ghost use Rattle.std.specs.Prelude.{◌≡◌, ◌∷◌, [], ℕ, List, IfOk, IfSome, IfNone, None, Some, MatchOption, length, All};
-ghost use Rattle.group_image.specs.Image.{missing_in, image_of};
-ghost use Rattle.ssu_group.specs.Carried.{wrong_module, module_bytes};
-ghost use Rattle.ssu_group.specs.declared.module_plan.ModulePlan.{ModulePlan};
-ghost use Rattle.ts_crc.specs.Crc.{crc_of};
+ghost use Rattle.std.specs.Prelude.{◌≡◌, ◌∷◌, [], ℕ, List, IfOk, Some, All};
 ghost use Rattle.group_image.specs.Image.{IsFor};
 ghost use Rattle.tool_load.specs.Growing.{IsSum, Reaches};
 ghost use Rattle.section_form.specs.Section.{IsRight};

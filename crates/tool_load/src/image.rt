@@ -1,6 +1,7 @@
 //! The image of the group, which grows as its blocks come.
 
-ghost use Rattle.std.specs.Prelude.{◌≡◌, ◌<◌, ◌≤◌, ◌+◌, ◌-◌, ◌||◌, ◌==◌, ℕ, length, take, drop, replicate, ◌++◌, vec_len, vec_capacity, IfOk};
+ghost use Rattle.std.specs.Prelude.{◌≡◌, ◌<◌, ◌≤◌, ◌+◌, ◌-◌, ◌||◌, ◌==◌, ℕ, length, take, drop, replicate, ◌++◌};
+ghost use Rattle.std.specs.Prelude.{vec_len, vec_capacity, IfOk};
 ghost use Rattle.ts_crc.specs.Crc.{crc_of};
 ghost use Rattle.ssu_group.specs.Carried.{module_bytes};
 ghost use Rattle.ssu_group.specs.declared.group_plan.GroupPlan.{GroupPlan};
@@ -62,8 +63,8 @@ fn write_at(buffer: &mut Vec<u8>, at: usize, bytes: &[u8])
     buffer[at..at + bytes.len()].copy_from_slice(bytes);
 }
 
-/// Lays the bytes from place `at` on. There is room for them; where they leave a gap it is filled with 0.
-fn lay(buffer: &mut Vec<u8>, at: usize, bytes: &[u8])
+/// Writes the bytes from place `at` on. There is room for them; where they leave a gap it is filled with 0.
+fn write_padded(buffer: &mut Vec<u8>, at: usize, bytes: &[u8])
     requires { at + length bytes.now ≤ vec_capacity buffer.old }
     ensures bytes { buffer.new.items ≡ laid buffer.old.items at bytes.now }
     ensures room { vec_capacity buffer.old ≤ vec_capacity buffer.new }
@@ -116,7 +117,7 @@ impl Image {
         ensures there { (number : ℕ) → is_there self.new number ≡ (number == place.number || is_there self.old number) }
         ensures bytes { self.new.buffer ≡ laid self.old.buffer place.at bytes.now }
     {
-        lay(&mut self.buffer, place.at as usize, bytes);
+        write_padded(&mut self.buffer, place.at as usize, bytes);
         self.map.mark(place.number);
     }
 

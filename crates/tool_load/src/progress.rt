@@ -1,6 +1,6 @@
 //! How far the sections have led: to no group, to a group, to its blocks.
 
-ghost use Rattle.std.specs.Prelude.{◌≡◌, ◌∷◌, ◌++◌, [], ℕ, List, reverse, OnOk, OnErr, IsTrue, IsFalse};
+ghost use Rattle.std.specs.Prelude.{◌∷◌, ◌++◌, ℕ, List, reverse, OnOk, OnErr, IsTrue, IsFalse};
 ghost use Rattle.section_form.specs.Section.{IsRight};
 ghost use Rattle.tool_load.specs.Load.{IsChosen, IsReached};
 ghost use Rattle.tool_load.specs.Progress.{StandsFor};
@@ -25,6 +25,24 @@ pub(crate) enum Progress {
 impl Progress {
     /// One right section more.
     pub(crate) fn hear(&mut self, alloc: Global, section: &[u8]) -> Result<(), NoMemory>
+        requires right { IsRight section.now }
+        ensures stands { OnOk result ((sections : List (List ℕ)) → StandsFor self.old sections
+            → StandsFor self.new (section.now ∷ sections)) }
+        // The space of the group is taken at its DII.
+        ensures no_memory { OnErr result ((sections : List (List ℕ)) → StandsFor self.old sections
+            → (IsChosen sections → ⊥) × IsChosen (section.now ∷ sections)) }
+    {
+        if let Progress::Collecting(blocks) = self {
+            blocks.take(section);
+            return Ok(());
+        }
+        self.go_on(alloc, section)
+    }
+
+    /// The same. It stands apart because it has a plan on its stack, whose room is cleared at each call: with the blocks that would
+    /// take as long as their copies.
+    #[inline(never)]
+    fn go_on(&mut self, alloc: Global, section: &[u8]) -> Result<(), NoMemory>
         requires right { IsRight section.now }
         ensures stands { OnOk result ((sections : List (List ℕ)) → StandsFor self.old sections
             → StandsFor self.new (section.now ∷ sections)) }

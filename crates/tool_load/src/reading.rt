@@ -2,11 +2,10 @@
 
 ghost use Rattle.std.specs.Prelude.{◌≡◌, None, Some, MatchOption, IfSome};
 ghost use Rattle.std.specs.Option.{option_map};
-ghost use Rattle.dsmcc_msg.specs.Control.{DsiFields, DiiFields, dsi, dii};
+ghost use Rattle.dsmcc_msg.specs.Control.{DiiFields, dsi, dii};
 ghost use Rattle.dsmcc_msg.specs.Block.{ddb};
 ghost use Rattle.dsmcc_msg.specs.View.{ddb_view};
 ghost use Rattle.section_form.specs.Section.{IsRight};
-ghost use Rattle.ssu_group.specs.Refusal.{refusal};
 ghost use Rattle.ssu_group.specs.Lays.{IsPlanOf};
 ghost use Rattle.tool_load.specs.Growing.{Carries};
 ghost use Rattle.tool_load.specs.Load.{group_in as group_of_section, dii_in, usable_for};

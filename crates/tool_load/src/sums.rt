@@ -16,7 +16,7 @@ use std::marker::Model;
 const START: u32 = 0xFFFF_FFFF;
 
 /// The least block whose CRC is joined: the bytes of a shorter one take less time.
-const LEAST: u16 = 256;
+const MIN_JOINED: u16 = 256;
 
 /// The CRC of the bytes of the image from one place to another.
 #[derive(Clone, Copy, Debug, PartialEq, Eq)]
@@ -90,7 +90,7 @@ impl Sums {
         let done = Vec::with_capacity(alloc, plan.modules.len())?;
         Ok(Sums {
             join: BlockJoin::new(plan.block_size),
-            last: none_from(0),
+            last: empty_at(0),
             done,
         })
     }
@@ -102,11 +102,11 @@ impl Sums {
         ensures { (plan : GroupPlan) (old new : Collected) → Fills plan old place bytes.now new
             → All (IsSum plan old) self.old → All (IsSum plan new) self.new }
     {
-        if self.join.len() < LEAST {
+        if self.join.len() < MIN_JOINED {
             return;
         }
         if is_first {
-            if let Some(sum) = with_place(&self.join, none_from(place.at), place, section, bytes) {
+            if let Some(sum) = with_place(&self.join, empty_at(place.at), place, section, bytes) {
                 keep(&mut self.done, self.last);
                 self.last = sum;
             }
@@ -156,7 +156,7 @@ fn found_in(sums: &[Sum], part: &ModulePlan) -> Option<u32>
 }
 
 /// No bytes from this place on.
-fn none_from(at: u32) -> Sum
+fn empty_at(at: u32) -> Sum
     ensures { result ≡ record { at = at; end = at; register = start } }
 {
     Sum {

@@ -1,7 +1,7 @@
 -- What a replay leaves of a flash, for the box that the shelf told.
 use Rattle.std.proofs.Common.{◌≡◌, ◌⊎◌, ⊎_elim, inl, inr, ℕ, List, subst, sym}
 use Rattle.box_file.specs.declared.file.BoxFile.{BoxFile}
-use Rattle.flash_bank.specs.Layout.{blocks_of}
+use Rattle.flash_layout.specs.Layout.{blocks_of}
 use Rattle.flash_bank.specs.Seen.{flash_seen}
 use Rattle.flash_bank.specs.Sound.{Boot, IsSound}
 use Rattle.flash_dev.specs.declared.device.Flash.{Ghosts as FlashGhosts}

@@ -6,7 +6,7 @@ use Rattle.broadcast.specs.Broadcasts.{IsBootFault, IsBuildFault, IsFault, IsLoa
 use Rattle.broadcast.specs.Packets.{sent_packets}
 use Rattle.broadcast.specs.declared.fault.ChainFault.{ChainFault}
 use Rattle.broadcast.specs.declared.fault.ChainFault.TheVariants.{Boot, Build, Load, Memory}
-use Rattle.flash_bank.specs.Layout.{Geometry, IsInLimits}
+use Rattle.flash_layout.specs.Layout.{Geometry, IsInLimits}
 use Rattle.flash_bank.specs.Sound.{IsSound, IsWorn}
 use Rattle.flash_bank.specs.declared.fault.BootFault.{BootFault}
 use Rattle.flash_bank.specs.declared.fault.BootFault.TheVariants as boot_fault

@@ -1,8 +1,8 @@
 -- The flash of a sample.
 use Rattle.std.proofs.Common.{◌≡◌, ◌∙◌, ℕ, List, ap, arith, refl, replicate, subst, sym}
 use Rattle.std.specs.Prelude.{Err, IfOk, Ok, Result}
-use Rattle.flash_bank.specs.Format.{Formats, first_record}
-use Rattle.flash_bank.specs.Layout.{Geometry, IsInLimits, bank_len, blocks_of}
+use Rattle.flash_bank.specs.Format.{Formats, first_record, layout_for}
+use Rattle.flash_layout.specs.Layout.{Geometry, IsInLimits, bank_len, blocks_of}
 use Rattle.flash_bank.specs.Sound.{Boot, IsWorn, boot_in}
 use Rattle.flash_bank.specs.declared.record.Record.{Record}
 use Rattle.flash_bank.proofs.SoundLemmas.{one_boot}
@@ -27,7 +27,7 @@ limits = record {
 pub fresh : (before : SureFlash) → IsFormatted before → IsWorn the_blocks (sure_contents before) → ⊥
 fresh before formatted worn =
     let contents = sure_contents before in
-    let first : Boot = record { head = first_record 16 running; image = first_image } in
+    let first : Boot = record { head = first_record 1 16 running; image = first_image } in
     let current = boot_in the_blocks contents worn.block in
     let same = one_boot the_blocks contents first current formatted.contents.boot (record { block = worn.block; current = worn.current; is = refl }) in
     omega (arith, ap (λ (b : Boot). b.head.number) same, worn.greatest)
@@ -46,14 +46,16 @@ blank_is (Err none) contents count len = tt
 pub in_limits : (flash : SureFlash) → IsBlankFlash flash → IsInLimits (blocks_of ghosts flash)
 in_limits flash blank = subst IsInLimits (sym blank.blocks) limits
 
-pub room : (flash : SureFlash) → IsBlankFlash flash → bank_len (blocks_of ghosts flash) ≡ 409600
-room flash blank = ap bank_len blank.blocks
+pub room : (flash : SureFlash) → IsBlankFlash flash → bank_len (blocks_of ghosts flash) (layout_for (blocks_of ghosts flash)) ≡ 409600
+room flash blank = ap (λ (g : Geometry). bank_len g (layout_for g)) blank.blocks
 
 -- A flash that was blank was formatted.
 pub formatted_is : (old new : SureFlash) (head : Record) (image : List ℕ) → IsBlankFlash old → sure_block_count new ≡ sure_block_count old
-    → sure_block_len new ≡ sure_block_len old → head ≡ first_record 16 running → image ≡ first_image
+    → sure_block_len new ≡ sure_block_len old → head ≡ first_record (layout_for (blocks_of ghosts old)) 16 running → image ≡ first_image
     → Formats (blocks_of ghosts old) head image (sure_contents old) (sure_contents new) → IsFormatted new
 formatted_is old new head image blank count len head_is image_is formats = record {
   blocks = blocks_are new (count ∙ ap (λ (g : Geometry). g.blocks) blank.blocks) (len ∙ ap (λ (g : Geometry). g.block_len) blank.blocks);
-  contents = rw (blank.blocks, blank.contents, head_is, image_is) at formats;
+  contents =
+      let is : head ≡ first_record 1 16 running = head_is ∙ ap (λ (g : Geometry). first_record (layout_for g) 16 running) blank.blocks in
+      rw (blank.blocks, blank.contents, is, image_is) at formats;
 }

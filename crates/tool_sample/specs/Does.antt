@@ -3,7 +3,7 @@ use Rattle.std.specs.Prelude.{◌≡◌, ◌≤◌, ◌*◌, ℕ, ◌++◌, List
 use Rattle.broadcast.specs.Broadcasts.{Concludes}
 use Rattle.broadcast.specs.declared.outcome.Outcome.{Outcome}
 use Rattle.flash_bank.specs.Format.{Formats, first_record}
-use Rattle.flash_bank.specs.Layout.{blocks_of}
+use Rattle.flash_layout.specs.Layout.{blocks_of}
 use Rattle.flash_bank.specs.Seen.{FlashSeen, flash_seen}
 use Rattle.flash_dev.specs.Sure.{sure_contents}
 use Rattle.flash_dev.specs.contracts.sure.SureFlashFlash.TheImpl.{ghosts}
@@ -32,7 +32,7 @@ pub record IsBlankFlash (flash : SureFlash) : Type 0 where
 -- It has the blocks of a sample's flash, and was blank and then formatted.
 pub record IsFormatted (flash : SureFlash) : Type 0 where
   pub blocks : blocks_of ghosts flash ≡ the_blocks
-  pub contents : Formats the_blocks (first_record 16 running) first_image blank_contents (sure_contents flash)
+  pub contents : Formats the_blocks (first_record 1 16 running) first_image blank_contents (sure_contents flash)
 
 -- the flash before a broadcast and after it
 abbrev pub sure_seen : SureFlash → SureFlash → FlashSeen

@@ -4,7 +4,7 @@ use Rattle.std.specs.List.{range_with_len, sum_by}
 use Rattle.air_channel.specs.Scripts.{ScriptData}
 use Rattle.box_file.specs.declared.file.BoxFile.{BoxFile}
 use Rattle.broadcast.specs.Packets.{Broadcast}
-use Rattle.flash_bank.specs.Layout.{Geometry}
+use Rattle.flash_layout.specs.Layout.{Geometry}
 use Rattle.head_carousel.specs.Sections.{sections_of}
 use Rattle.head_plan.specs.Plans.{GroupData, PlanData}
 use Rattle.ssu_compat.specs.declared.rule.Rule.TheVariants.{Newer}
@@ -75,8 +75,8 @@ plan_in number turns = record {
 abbrev pub section_total : ℕ → ℕ
 section_total number = length (sections_of (plan_in number 1) (modules_of number))
 
--- With n sections in all, each comes again after n turns and a quarter of them, but for n turns more at most. So much of the
--- broadcast is whole behind the 2,000 packets of which some are lost.
+-- The turns of a sample of n sections in all: as many that several rounds of the sections are meant to follow the 2,000 packets
+-- of which some are lost.
 abbrev pub turns_for : ℕ → ℕ
 turns_for n = 2000 + 8 * (2 * n + n / 4)
 

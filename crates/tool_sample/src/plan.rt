@@ -73,8 +73,8 @@ pub(crate) fn section_count(
     }
 }
 
-/// How many sections are sent, where there are so many: 2,000, behind which no packet is lost, and then eight times as many as it
-/// takes until each came again.
+/// The turns, where there are so many sections: 2,000, in whose packets some are lost, and then eight times as many as two
+/// rounds of the sections and a quarter of one have.
 pub(crate) fn turns(sections: u32) -> u32
     requires { sections ≤ 297 }
     ensures value { result ≡ turns_for sections }

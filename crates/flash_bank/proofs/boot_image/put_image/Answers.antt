@@ -1,5 +1,5 @@
 use Rattle.std.proofs.Common.{◌+◌, List, ℕ, subst, arith}
-use Rattle.flash_bank.specs.Pairs.{part}
+use Rattle.flash_layout.specs.Pairs.{part}
 use Rattle.flash_bank.proofs.BootLemmas.{on_err, piece_put, prefix_put}
 use Rattle.flash_bank.proofs.ReadsLemmas.{reads_joined}
 use Rattle.flash_bank.proofs.boot_image.put_image.Goals as goal

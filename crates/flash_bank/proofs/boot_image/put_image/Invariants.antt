@@ -1,5 +1,5 @@
 use Rattle.std.proofs.Common.{◌-◌, ◌≤◌}
-use Rattle.flash_bank.specs.Pairs.{part}
+use Rattle.flash_layout.specs.Pairs.{part}
 use Rattle.flash_bank.specs.Runs.{OnlyReads}
 use Rattle.ssu_io.specs.Bytes.{Gains}
 use Rattle.flash_bank.proofs.boot_image.put_image.Given as goal

@@ -1,7 +1,7 @@
 use Rattle.std.specs.Prelude.{OnErr, OnOk}
 use Rattle.std.proofs.Common.{◌≡◌, List, ℕ, length, sym, subst, arith, rules}
-use Rattle.flash_bank.specs.Pairs.{part}
-use Rattle.flash_bank.proofs.PartLemmas.{part_held}
+use Rattle.flash_layout.specs.Pairs.{part}
+use Rattle.flash_layout.proofs.PartLemmas.{part_held}
 use Rattle.flash_bank.proofs.boot_image.put_piece.Goals as goal
 use Rattle.ssu_io.specs.Bytes.{Gains, GainsPrefix}
 

@@ -1,11 +1,11 @@
 use Rattle.std.proofs.Common.{◌≡◌, List, ℕ, length, sym, subst, arith, rules}
 use Rattle.flash_dev.specs.Changes.{Holds}
 use Rattle.flash_bank.specs.Find.{Describes}
-use Rattle.flash_bank.specs.Layout.{bank_len, record_place}
-use Rattle.flash_bank.specs.Pairs.{part}
-use Rattle.flash_bank.specs.Shape.{geometry}
-use Rattle.flash_bank.proofs.PartLemmas.{part_held}
-use Rattle.flash_bank.proofs.Places.{record_within}
+use Rattle.flash_layout.specs.Layout.{record_place}
+use Rattle.flash_layout.specs.Pairs.{part}
+use Rattle.flash_layout.specs.Shape.{geometry}
+use Rattle.flash_layout.proofs.PartLemmas.{part_held}
+use Rattle.flash_layout.proofs.Places.{record_within}
 use Rattle.flash_bank.proofs.ReadsLemmas.{reads_one}
 use Rattle.flash_bank.proofs.find.read_block.Goals as goal
 
@@ -18,8 +18,7 @@ returns-clause-found g c tells =
     let holds : Holds old place bytes = subst (λ (p : ℕ). Holds old p bytes) c.record_place.ensures (c.in_ok-read.ensures.bytes tells) in
     let size : length bytes ≡ 64 = search rules in
     let is : part old place 64 ≡ bytes = part_held old bytes place 64 size (omega (arith, record_within (geometry shape) c.requires.limits c.args.block c.requires.block, c.requires.limits.least_len, c.requires.whole tells)) holds in
-    let D = λ (bs : List ℕ). Describes c.described.result bs c.args.block (bank_len (geometry shape)) in
-    subst D (sym is) (subst (λ (most : ℕ). Describes c.described.result bytes c.args.block most) c.bank_len.ensures c.described.ensures.found)
+    subst (λ (bs : List ℕ). Describes (geometry shape) c.described.result bs c.args.block) (sym is) c.described.ensures.found
 
 pub returns-clause-reads : goal.returns-clause-reads
 returns-clause-reads g c =

@@ -1,14 +1,16 @@
 use Rattle.std.proofs.Common.{◌≡◌, ◌⊎◌, inr, ⊎_elim, ◌+◌, ◌*◌, ◌<◌, true, false, length, ℕ, List, refl, sym, ◌∙◌, subst, arith}
 use Rattle.std.specs.Prelude.{is_ok}
 use Rattle.flash_dev.specs.Changes.{Changes}
+use Rattle.flash_remap.specs.Added.{AddsFor}
 use Rattle.flash_remap.specs.Change.{IsDoneBy, IsTornBy, begins_at, changed_len}
 use Rattle.flash_remap.specs.Layout.{blocks_in, slots_in}
 use Rattle.flash_remap.specs.Logical.{logical}
 use Rattle.flash_remap.specs.Replaced.{Replaces}
 use Rattle.flash_remap.specs.Shape.{geometry}
+use Rattle.flash_remap.proofs.AddedLemmas.{adds_joined, adds_none}
 use Rattle.flash_remap.proofs.BeneathLemmas.{beneath, beneath_changes, beneath_seen}
-use Rattle.flash_remap.proofs.ChangeLemmas.{blank_kept, changes_torn, direct, in_block, next_kept, place_kept, replaced_done, replaced_torn, spare_kept, torn_none}
-use Rattle.flash_remap.proofs.CountLemmas.{uses_at_most}
+use Rattle.flash_remap.proofs.ChangeLemmas.{adds_kept, blank_kept, changes_torn, direct, in_block, next_kept, place_kept, replaced_done, replaced_torn, spare_kept, torn_none}
+use Rattle.flash_remap.proofs.CountLemmas.{counted_in_all, tried_all, uses_at_most}
 use Rattle.flash_remap.proofs.FillLemmas.{same_product}
 use Rattle.flash_remap.proofs.LeavingLemmas.{err_is, err_value, left_joined, left_more, left_none, ok_is_no_err, ok_value}
 use Rattle.flash_remap.proofs.ViewLemmas.{view_elapses}
@@ -509,3 +511,165 @@ returns-in-Err-clause-uses g c =
 
 pub returns-in-Ok-clause-entry : goal.returns-in-Ok-clause-entry
 returns-in-Ok-clause-entry g c = c.in-Ok.ensures.entry
+
+pub returns-then-is_ok-clause-adds : goal.returns-then-is_ok-clause-adds
+returns-then-is_ok-clause-adds g c tells =
+    let F = g.F.Flash in
+    let G = geometry c.args.layout in
+    let z = c.args.layout.block_size in
+    let ch = c.args.change in
+    let at = begins_at ch in
+    let n = changed_len z ch in
+    let b = c.args.block in
+    let from = c.args.from in
+    let x = F.contents c.args.inner.now in
+    let mid = F.contents c.apply.new.inner in
+    let inside : from < c.args.layout.logical + c.args.layout.spares = omega (arith, c.requires.from, c.requires.spare) in
+    let fits = in_block z ch c.requires.inside in
+    let is : is_ok c.apply.result ≡ true = sym c.is_ok.ensures.value ∙ c.if-is_ok.true in
+    let done = λ (tells : F.tells). ok_value c.apply.result is (c.apply.ensures.done tells) in
+    let torn = λ (tells : F.tells). changes_torn (from * z + at) n ch x mid c.requires.bytes (g.met.F.Flash.are_bytes tells c.args.inner.now) (done tells) in
+    let adds = λ (tells : F.tells) (y : List ℕ) (t : Changes (from * z + at) n (IsTornBy ch) x y). adds_kept G x b from at n c.requires.block (c.requires.stands tells) inside fits (IsTornBy ch) y t in
+    adds tells mid (torn tells)
+
+pub returns-then-is_ok-clause-adds_left : goal.returns-then-is_ok-clause-adds_left
+returns-then-is_ok-clause-adds_left g c =
+    let F = g.F.Flash in
+    let G = geometry c.args.layout in
+    let z = c.args.layout.block_size in
+    let ch = c.args.change in
+    let at = begins_at ch in
+    let n = changed_len z ch in
+    let b = c.args.block in
+    let from = c.args.from in
+    let x = F.contents c.args.inner.now in
+    let mid = F.contents c.apply.new.inner in
+    let inside : from < c.args.layout.logical + c.args.layout.spares = omega (arith, c.requires.from, c.requires.spare) in
+    let fits = in_block z ch c.requires.inside in
+    let is : is_ok c.apply.result ≡ true = sym c.is_ok.ensures.value ∙ c.if-is_ok.true in
+    let done = λ (tells : F.tells). ok_value c.apply.result is (c.apply.ensures.done tells) in
+    let torn = λ (tells : F.tells). changes_torn (from * z + at) n ch x mid c.requires.bytes (g.met.F.Flash.are_bytes tells c.args.inner.now) (done tells) in
+    let adds = λ (tells : F.tells) (y : List ℕ) (t : Changes (from * z + at) n (IsTornBy ch) x y). adds_kept G x b from at n c.requires.block (c.requires.stands tells) inside fits (IsTornBy ch) y t in
+    let P = AddsFor G b x in
+    let start = left_none F c.args.inner.now P (g.met.F.Flash.only_now c.args.inner.now) (λ tells. adds_none G b x x (λ slot lt. refl)) in
+    let first = left_more F c.args.inner.now c.args.inner.now c.apply.new.inner P (λ y. Changes (from * z + at) n (IsTornBy ch) x y ⊎ (y ≡ mid)) start c.apply.ensures.time
+    (λ tells y. ⊎_elim (λ t. adds tells y t) (λ e. subst P (sym e) (adds tells mid (torn tells)))) in
+    first
+
+pub returns-then-is_ok-clause-counted : goal.returns-then-is_ok-clause-counted
+returns-then-is_ok-clause-counted g c =
+    inr (omega (arith, c.apply.ensures.cause.later))
+
+pub returns-in-Ok-clause-adds : goal.returns-in-Ok-clause-adds
+returns-in-Ok-clause-adds g c tells =
+    let F = g.F.Flash in
+    let G = geometry c.args.layout in
+    let z = c.args.layout.block_size in
+    let ch = c.args.change in
+    let at = begins_at ch in
+    let n = changed_len z ch in
+    let b = c.args.block in
+    let from = c.args.from in
+    let x = F.contents c.args.inner.now in
+    let mid = F.contents c.apply.new.inner in
+    let inside : from < c.args.layout.logical + c.args.layout.spares = omega (arith, c.requires.from, c.requires.spare) in
+    let fits = in_block z ch c.requires.inside in
+    let is : is_ok c.apply.result ≡ false = sym c.is_ok.ensures.value ∙ c.if-is_ok.false in
+    let torn = λ (tells : F.tells). err_value c.apply.result is (c.apply.ensures.torn tells) in
+    let adds = λ (tells : F.tells) (y : List ℕ) (t : Changes (from * z + at) n (IsTornBy ch) x y). adds_kept G x b from at n c.requires.block (c.requires.stands tells) inside fits (IsTornBy ch) y t in
+    adds_joined G b x mid (F.contents c.replace.new.inner) (adds tells mid (torn tells)) (c.replace.ensures.held tells).adds
+
+pub returns-in-Ok-clause-adds_left : goal.returns-in-Ok-clause-adds_left
+returns-in-Ok-clause-adds_left g c =
+    let F = g.F.Flash in
+    let G = geometry c.args.layout in
+    let z = c.args.layout.block_size in
+    let ch = c.args.change in
+    let at = begins_at ch in
+    let n = changed_len z ch in
+    let b = c.args.block in
+    let from = c.args.from in
+    let x = F.contents c.args.inner.now in
+    let mid = F.contents c.apply.new.inner in
+    let inside : from < c.args.layout.logical + c.args.layout.spares = omega (arith, c.requires.from, c.requires.spare) in
+    let fits = in_block z ch c.requires.inside in
+    let is : is_ok c.apply.result ≡ false = sym c.is_ok.ensures.value ∙ c.if-is_ok.false in
+    let torn = λ (tells : F.tells). err_value c.apply.result is (c.apply.ensures.torn tells) in
+    let adds = λ (tells : F.tells) (y : List ℕ) (t : Changes (from * z + at) n (IsTornBy ch) x y). adds_kept G x b from at n c.requires.block (c.requires.stands tells) inside fits (IsTornBy ch) y t in
+    let P = AddsFor G b x in
+    let start = left_none F c.args.inner.now P (g.met.F.Flash.only_now c.args.inner.now) (λ tells. adds_none G b x x (λ slot lt. refl)) in
+    let first = left_more F c.args.inner.now c.args.inner.now c.apply.new.inner P (λ y. Changes (from * z + at) n (IsTornBy ch) x y ⊎ (y ≡ mid)) start c.apply.ensures.time
+    (λ tells y. ⊎_elim (λ t. adds tells y t) (λ e. subst P (sym e) (adds tells mid (torn tells)))) in
+    left_joined F c.args.inner.now c.apply.new.inner c.replace.new.inner P (Replaces G b from ch c.args.next.now.spare c.args.layout.spares mid) first c.replace.ensures.left
+    (λ tells w r. adds_joined G b x mid w (adds tells mid (torn tells)) r.adds)
+
+pub returns-in-Ok-clause-counted : goal.returns-in-Ok-clause-counted
+returns-in-Ok-clause-counted g c =
+    let is : is_ok c.apply.result ≡ false = sym c.is_ok.ensures.value ∙ c.if-is_ok.false in
+    counted_in_all (g.F.Flash.faults c.args.inner.now) (g.F.Flash.faults c.apply.new.inner) (g.F.Flash.faults c.replace.new.inner) c.args.next.now.spare c.replace.new.next.spare
+    (c.apply.ensures.cause.failed (err_is c.apply.result is)) c.replace.ensures.later c.replace.ensures.counted
+
+pub returns-in-Err-clause-adds : goal.returns-in-Err-clause-adds
+returns-in-Err-clause-adds g c tells =
+    let F = g.F.Flash in
+    let G = geometry c.args.layout in
+    let z = c.args.layout.block_size in
+    let ch = c.args.change in
+    let at = begins_at ch in
+    let n = changed_len z ch in
+    let b = c.args.block in
+    let from = c.args.from in
+    let x = F.contents c.args.inner.now in
+    let mid = F.contents c.apply.new.inner in
+    let inside : from < c.args.layout.logical + c.args.layout.spares = omega (arith, c.requires.from, c.requires.spare) in
+    let fits = in_block z ch c.requires.inside in
+    let is : is_ok c.apply.result ≡ false = sym c.is_ok.ensures.value ∙ c.if-is_ok.false in
+    let torn = λ (tells : F.tells). err_value c.apply.result is (c.apply.ensures.torn tells) in
+    let adds = λ (tells : F.tells) (y : List ℕ) (t : Changes (from * z + at) n (IsTornBy ch) x y). adds_kept G x b from at n c.requires.block (c.requires.stands tells) inside fits (IsTornBy ch) y t in
+    adds_joined G b x mid (F.contents c.replace.new.inner) (adds tells mid (torn tells)) (c.replace.ensures.held tells).adds
+
+pub returns-in-Err-clause-adds_left : goal.returns-in-Err-clause-adds_left
+returns-in-Err-clause-adds_left g c =
+    let F = g.F.Flash in
+    let G = geometry c.args.layout in
+    let z = c.args.layout.block_size in
+    let ch = c.args.change in
+    let at = begins_at ch in
+    let n = changed_len z ch in
+    let b = c.args.block in
+    let from = c.args.from in
+    let x = F.contents c.args.inner.now in
+    let mid = F.contents c.apply.new.inner in
+    let inside : from < c.args.layout.logical + c.args.layout.spares = omega (arith, c.requires.from, c.requires.spare) in
+    let fits = in_block z ch c.requires.inside in
+    let is : is_ok c.apply.result ≡ false = sym c.is_ok.ensures.value ∙ c.if-is_ok.false in
+    let torn = λ (tells : F.tells). err_value c.apply.result is (c.apply.ensures.torn tells) in
+    let adds = λ (tells : F.tells) (y : List ℕ) (t : Changes (from * z + at) n (IsTornBy ch) x y). adds_kept G x b from at n c.requires.block (c.requires.stands tells) inside fits (IsTornBy ch) y t in
+    let P = AddsFor G b x in
+    let start = left_none F c.args.inner.now P (g.met.F.Flash.only_now c.args.inner.now) (λ tells. adds_none G b x x (λ slot lt. refl)) in
+    let first = left_more F c.args.inner.now c.args.inner.now c.apply.new.inner P (λ y. Changes (from * z + at) n (IsTornBy ch) x y ⊎ (y ≡ mid)) start c.apply.ensures.time
+    (λ tells y. ⊎_elim (λ t. adds tells y t) (λ e. subst P (sym e) (adds tells mid (torn tells)))) in
+    left_joined F c.args.inner.now c.apply.new.inner c.replace.new.inner P (Replaces G b from ch c.args.next.now.spare c.args.layout.spares mid) first c.replace.ensures.left
+    (λ tells w r. adds_joined G b x mid w (adds tells mid (torn tells)) r.adds)
+
+pub returns-in-Err-clause-counted : goal.returns-in-Err-clause-counted
+returns-in-Err-clause-counted g c =
+    let is : is_ok c.apply.result ≡ false = sym c.is_ok.ensures.value ∙ c.if-is_ok.false in
+    counted_in_all (g.F.Flash.faults c.args.inner.now) (g.F.Flash.faults c.apply.new.inner) (g.F.Flash.faults c.replace.new.inner) c.args.next.now.spare c.replace.new.next.spare
+    (c.apply.ensures.cause.failed (err_is c.apply.result is)) c.replace.ensures.later c.replace.ensures.counted
+
+pub returns-in-Ok-clause-rose_moved : goal.returns-in-Ok-clause-rose_moved
+returns-in-Ok-clause-rose_moved g c =
+    let is : is_ok c.apply.result ≡ false = sym c.is_ok.ensures.value ∙ c.if-is_ok.false in
+    omega (arith, c.apply.ensures.cause.failed (err_is c.apply.result is), c.replace.ensures.later)
+
+pub returns-in-Ok-clause-used : goal.returns-in-Ok-clause-used
+returns-in-Ok-clause-used g c =
+    c.in-Ok.ensures.used
+
+pub returns-in-Err-clause-tried : goal.returns-in-Err-clause-tried
+returns-in-Err-clause-tried g c =
+    let is : is_ok c.apply.result ≡ false = sym c.is_ok.ensures.value ∙ c.if-is_ok.false in
+    tried_all c.args.layout.spares (slots_in (geometry c.args.layout)) c.args.next.now.spare c.args.next.now.slot c.replace.new.next.spare c.replace.new.next.slot
+    (g.F.Flash.faults c.args.inner.now) (g.F.Flash.faults c.apply.new.inner) (g.F.Flash.faults c.replace.new.inner) c.replace.ensures.spare c.replace.ensures.most_spare c.replace.ensures.slot
+    c.replace.ensures.most_slot c.replace.ensures.slots c.in-Err.ensures.none_left (c.apply.ensures.cause.failed (err_is c.apply.result is)) c.replace.ensures.later c.in-Err.ensures.counted_err

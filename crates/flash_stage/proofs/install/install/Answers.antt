@@ -1,16 +1,28 @@
-use Rattle.std.proofs.Common.{length}
+use Rattle.std.proofs.Common.{◌≡◌, ◌+◌, ◌≤◌, List, ℕ, length, arith}
+use Rattle.flash_dev.specs.Changes.{Changes, IsBlank, IsProgrammed}
 use Rattle.flash_dev.proofs.Moments.{joined, weaker}
-use Rattle.flash_bank.specs.Bank.{LeavesBegun, LeavesCommitted, LeavesFilled, current_of, geometry_of}
+use Rattle.flash_layout.specs.Layout.{area_len, journal_len}
+use Rattle.flash_bank.specs.Bank.{LeavesBegun, LeavesCommitted, LeavesFilled, current_of, geometry_of, len_of, spare_bank, spare_journal}
+use Rattle.flash_bank.specs.declared.bank.Bank.{Bank}
 use Rattle.flash_bank.specs.Record.{next_record}
 use Rattle.flash_bank.specs.Sound.{Commits, boot_of}
+use Rattle.flash_bank.proofs.BankLemmas.{blank_bank, blank_journal, still_blank_journal}
 use Rattle.flash_stage.specs.Leaving.{FinishLeaves, SameBank}
-use Rattle.flash_stage.proofs.LeavingLaws.{Began, Filled, banks_joined, begin_left, blank_front, commit_installs, commit_left, fill_left, on_ok}
+use Rattle.flash_stage.proofs.LeavingLaws.{Began, Filled, banks_joined, begin_left, blank_front, commit_installs, commit_left, fill_left, len_same, on_ok}
+use Rattle.flash_stage.proofs.InBankLemmas.{same_journal}
 use Rattle.flash_stage.proofs.install.install.Goals as goal
+
+-- the journal is erased still once the bank before it is filled
+filled_journal : (b begun filled : Bank) (image mid full : List ℕ) → SameBank b begun → SameBank begun filled → length image ≤ len_of b → IsBlank mid (spare_bank b) (area_len (geometry_of b))
+    → Changes (spare_bank begun + 0) (length image) (IsProgrammed image) mid full → (current_of filled).layout ≡ 2 → IsBlank full (spare_journal filled) (journal_len (geometry_of filled))
+filled_journal b begun filled image mid full first second inside erased changes =
+    same_journal begun filled full second (λ two. still_blank_journal begun two 0 (length image) (IsProgrammed image) mid full (omega (arith, inside, len_same b begun first)) changes
+    (same_journal b begun mid first (λ was. blank_journal b was mid erased) two))
 
 pub fill-requires-clause-blank : goal.fill-requires-clause-blank
 fill-requires-clause-blank g c tells =
     let same : SameBank c.args.bank.now c.begin.new.self = record { geometry = c.begin.ensures.geometry; current = c.begin.ensures.current; block = c.begin.ensures.block } in
-    blank_front c.args.bank.now c.begin.new.self (g.F.Flash.contents c.begin.new.flash) _ same c.requires.inside (c.in_ok-begin.ensures.erased_bank tells)
+    blank_front c.args.bank.now c.begin.new.self (g.F.Flash.contents c.begin.new.flash) _ same c.requires.inside (blank_bank c.args.bank.now (g.F.Flash.contents c.begin.new.flash) (c.in_ok-begin.ensures.erased_area tells))
 
 pub returns-in_err-begin-clause-held : goal.returns-in_err-begin-clause-held
 returns-in_err-begin-clause-held g c tells = begin_left (geometry_of c.args.bank.now) _ c.args.image.now _ _ (c.begin.ensures.held tells)
@@ -75,6 +87,8 @@ returns-clause-done g c tells =
       leaves = c.fill.ensures.held tells;
       done = c.in_ok-fill.ensures.filled tells;
       fits = c.in_ok-fill.ensures.lent.fits tells;
+      journal = filled_journal b c.begin.new.self c.fill.new.self image mid full (record { geometry = c.begin.ensures.geometry; current = c.begin.ensures.current; block = c.begin.ensures.block })
+          (record { geometry = c.fill.ensures.geometry; current = c.fill.ensures.current; block = c.fill.ensures.block }) c.requires.inside (c.in_ok-begin.ensures.erased_area tells) (c.in_ok-fill.ensures.filled tells);
     } in
     on_ok (Commits (geometry_of c.fill.new.self) (boot_of (geometry_of c.fill.new.self) full (next_record (current_of c.fill.new.self) (length image) c.args.software c.args.group)) full y) _ c.commit.result
     (λ commits. commit_installs b c.begin.new.self c.fill.new.self image x mid full c.args.software c.args.group is y (c.commit.ensures.held tells) commits) (c.commit.ensures.committed tells)
@@ -100,6 +114,8 @@ returns-clause-held g c tells =
       leaves = c.fill.ensures.held tells;
       done = c.in_ok-fill.ensures.filled tells;
       fits = c.in_ok-fill.ensures.lent.fits tells;
+      journal = filled_journal b c.begin.new.self c.fill.new.self image mid full (record { geometry = c.begin.ensures.geometry; current = c.begin.ensures.current; block = c.begin.ensures.block })
+          (record { geometry = c.fill.ensures.geometry; current = c.fill.ensures.current; block = c.fill.ensures.block }) c.requires.inside (c.in_ok-begin.ensures.erased_area tells) (c.in_ok-fill.ensures.filled tells);
     } in
     commit_left b c.begin.new.self c.fill.new.self image x mid full c.args.software c.args.group is _ (c.commit.ensures.held tells)
 
@@ -126,6 +142,8 @@ returns-clause-left g c tells =
       leaves = c.fill.ensures.held tells;
       done = c.in_ok-fill.ensures.filled tells;
       fits = c.in_ok-fill.ensures.lent.fits tells;
+      journal = filled_journal b c.begin.new.self c.fill.new.self image mid full (record { geometry = c.begin.ensures.geometry; current = c.begin.ensures.current; block = c.begin.ensures.block })
+          (record { geometry = c.fill.ensures.geometry; current = c.fill.ensures.current; block = c.fill.ensures.block }) c.requires.inside (c.in_ok-begin.ensures.erased_area tells) (c.in_ok-fill.ensures.filled tells);
     } in
     joined F.moment F.left_since c.args.flash.now c.fill.new.flash c.commit.new.flash P
     (joined F.moment F.left_since c.args.flash.now c.begin.new.flash c.fill.new.flash P

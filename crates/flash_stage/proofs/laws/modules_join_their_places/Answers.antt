@@ -5,6 +5,6 @@ pub returns : goal.returns
 returns c = record {
   below = λ plan m k among below. module_below plan.block_size plan.modules.items plan.places plan.total m k plan.planned among below;
   texts = λ plan m text among measures. module_of_texts plan text measures m among;
-  carried = λ plan window m whole among. carried_module plan window m whole among;
+  carried = λ plan fills m long whole among. carried_module plan fills m long whole among;
   same = joined_same;
 }

@@ -1,7 +1,7 @@
 use Rattle.std.proofs.Common.{◌≡◌, ◌+◌, ◌++◌, List, ℕ, refl, ap, ◌∙◌, arith}
 use Rattle.ts_crc.specs.Crc.{crc_of}
 use Rattle.flash_bank.specs.Bank.{spare_bank}
-use Rattle.flash_bank.specs.Pairs.{part}
+use Rattle.flash_layout.specs.Pairs.{part}
 use Rattle.flash_bank.proofs.ReadsLemmas.{reads_joined, reads_none}
 use Rattle.flash_stage.proofs.InBankLemmas.{parts_joined, same_part}
 use Rattle.flash_stage.proofs.LeavingLaws.{bank_itself, banks_joined}

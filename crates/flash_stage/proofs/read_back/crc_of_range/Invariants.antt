@@ -1,7 +1,7 @@
 use Rattle.std.proofs.Common.{◌≡◌, ◌+◌, ◌-◌, ◌≤◌}
 use Rattle.ts_crc.specs.Crc.{crc_of}
 use Rattle.flash_bank.specs.Bank.{IsLent, is_begun, spare_bank}
-use Rattle.flash_bank.specs.Pairs.{part}
+use Rattle.flash_layout.specs.Pairs.{part}
 use Rattle.flash_bank.specs.Runs.{OnlyReads}
 use Rattle.flash_stage.specs.Leaving.{SameBank}
 use Rattle.flash_stage.proofs.read_back.crc_of_range.Given as goal

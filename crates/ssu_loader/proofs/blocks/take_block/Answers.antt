@@ -8,6 +8,8 @@ use Rattle.flash_bank.specs.Bank.{geometry_of}
 use Rattle.flash_bank.specs.Leaving.{KeepsBoot}
 use Rattle.ssu_group.specs.Place.{place_of}
 use Rattle.group_image.proofs.ImageLaws.{placed_len}
+use Rattle.group_image.proofs.LengthLaws.{brought_len, either_len}
+use Rattle.ssu_group.specs.Carried.{brings}
 use Rattle.ssu_loader.proofs.AnsweringLaws.{both_at_ok, inside_ok}
 use Rattle.ssu_loader.proofs.LeftLaws.{left_now}
 use Rattle.ssu_group.proofs.Filling.{brings_no_block, brings_no_place}
@@ -18,30 +20,38 @@ abbrev seen : Option Ddb → Option DdbFields
 seen o = option_map ddb_view o
 
 pub returns-in_default-clause-filled : goal.returns-in_default-clause-filled
-returns-in_default-clause-filled g c = λ window filled n below.
+returns-in_default-clause-filled g c = λ fills filled n below.
     let plan = c.args.plan.now in
     let no_block : ddb.of c.args.section.now ≡ None = sym c.ddb_of.ensures ∙ ap seen c.in_default.is in
-    filled n below ∙ sym (ap is_some (filling_same plan window c.args.section.now (λ k. brings_no_block plan k c.args.section.now no_block) n))
+    filled n below ∙ sym (ap is_some (filling_same plan fills c.args.section.now (λ k. brings_no_block plan k c.args.section.now no_block) n))
 
 pub returns-in_default-clause-bytes : goal.returns-in_default-clause-bytes
-returns-in_default-clause-bytes g c = λ tells window filled holds n b below e.
+returns-in_default-clause-bytes g c = λ tells fills filled holds.
     let plan = c.args.plan.now in
     let no_block : ddb.of c.args.section.now ≡ None = sym c.ddb_of.ensures ∙ ap seen c.in_default.is in
-    holds n b below (sym (filling_same plan window c.args.section.now (λ k. brings_no_block plan k c.args.section.now no_block) n) ∙ e)
+    let same = filling_same plan fills c.args.section.now (λ k. brings_no_block plan k c.args.section.now no_block) in
+    record {
+      lengths = λ n q b at e. holds.lengths n q b at (sym (same n) ∙ e);
+      texts = λ n b below e. holds.texts n b below (sym (same n) ∙ e);
+    }
 
 pub returns-in_default-place-clause-filled : goal.returns-in_default-place-clause-filled
-returns-in_default-place-clause-filled g c = λ window filled n below.
+returns-in_default-place-clause-filled g c = λ fills filled n below.
     let plan = c.args.plan.now in
     let block : ddb.of c.args.section.now ≡ Some (ddb_view c.in-Some.ddb) = sym c.ddb_of.ensures ∙ ap seen c.in-Some.is in
     let no_place : place_of plan (ddb_view c.in-Some.ddb) ≡ None = sym c.place.ensures.exact ∙ c.in_default-place.is in
-    filled n below ∙ sym (ap is_some (filling_same plan window c.args.section.now (λ k. brings_no_place plan k c.args.section.now (ddb_view c.in-Some.ddb) block no_place) n))
+    filled n below ∙ sym (ap is_some (filling_same plan fills c.args.section.now (λ k. brings_no_place plan k c.args.section.now (ddb_view c.in-Some.ddb) block no_place) n))
 
 pub returns-in_default-place-clause-bytes : goal.returns-in_default-place-clause-bytes
-returns-in_default-place-clause-bytes g c = λ tells window filled holds n b below e.
+returns-in_default-place-clause-bytes g c = λ tells fills filled holds.
     let plan = c.args.plan.now in
     let block : ddb.of c.args.section.now ≡ Some (ddb_view c.in-Some.ddb) = sym c.ddb_of.ensures ∙ ap seen c.in-Some.is in
     let no_place : place_of plan (ddb_view c.in-Some.ddb) ≡ None = sym c.place.ensures.exact ∙ c.in_default-place.is in
-    holds n b below (sym (filling_same plan window c.args.section.now (λ k. brings_no_place plan k c.args.section.now (ddb_view c.in-Some.ddb) block no_place) n) ∙ e)
+    let same = filling_same plan fills c.args.section.now (λ k. brings_no_place plan k c.args.section.now (ddb_view c.in-Some.ddb) block no_place) in
+    record {
+      lengths = λ n q b at e. holds.lengths n q b at (sym (same n) ∙ e);
+      texts = λ n b below e. holds.texts n b below (sym (same n) ∙ e);
+    }
 
 pub returns-in_default-clause-left : goal.returns-in_default-clause-left
 returns-in_default-clause-left g c = λ tells.
@@ -67,8 +77,8 @@ returns-clause-filled g c =
     let p = c.in-Some-place.place in
     let block : ddb.of c.args.section.now ≡ Some (ddb_view c.in-Some.ddb) = sym c.ddb_of.ensures ∙ ap seen c.in-Some.is in
     let placed : place_of plan (ddb_view c.in-Some.ddb) ≡ Some p = sym c.place.ensures.exact ∙ c.in-Some-place.is in
-    both_at_ok _ _ _ c.offer.result (λ added others window filled.
-    has_more plan c.args.section.now (ddb_view c.in-Some.ddb) p block placed (s.has c.args.stage.now) (s.has c.offer.new.self) window added others filled)
+    both_at_ok _ _ _ c.offer.result (λ added others fills filled.
+    has_more plan c.args.section.now (ddb_view c.in-Some.ddb) p block placed (s.has c.args.stage.now) (s.has c.offer.new.self) fills added others filled)
     c.offer.ensures.added c.offer.ensures.others
 
 pub returns-clause-bytes : goal.returns-clause-bytes
@@ -80,7 +90,10 @@ returns-clause-bytes g c = λ tells.
     let placed : place_of plan (ddb_view c.in-Some.ddb) ≡ Some p = sym c.place.ensures.exact ∙ c.in-Some-place.is in
     let x = g.F.Flash.contents c.args.flash.now in
     let y = g.F.Flash.contents c.offer.new.flash in
-    both_at_ok _ _ _ c.offer.result (λ old new window filled holds.
-    text_more plan c.args.section.now (ddb_view c.in-Some.ddb) p block placed (s.has c.args.stage.now)
-    (s.bytes_at c.args.stage.now c.args.bank.now x) (s.bytes_at c.offer.new.self c.offer.new.bank y) window new old filled holds)
+    both_at_ok _ _ _ c.offer.result (λ old new fills filled holds.
+    record {
+      lengths = λ n q b at e. either_len plan n (fills n) (brings plan n c.args.section.now) (λ r d is some. holds.lengths n r d is some) (brought_len plan n c.args.section.now) q b at e;
+      texts = text_more plan c.args.section.now (ddb_view c.in-Some.ddb) p block placed (s.has c.args.stage.now)
+          (s.bytes_at c.args.stage.now c.args.bank.now x) (s.bytes_at c.offer.new.self c.offer.new.bank y) fills new old filled holds.texts;
+    })
     (c.offer.ensures.old_bytes tells) (inside_ok _ _ c.offer.result (c.offer.ensures.new_bytes tells))

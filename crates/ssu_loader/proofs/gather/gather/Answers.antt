@@ -1,7 +1,8 @@
-use Rattle.std.proofs.Common.{ℕ, List, ◌∷◌, inl, sym, subst}
+use Rattle.std.proofs.Common.{ℕ, List, inl, sym, subst}
 use Rattle.flash_bank.specs.Bank.{geometry_of}
 use Rattle.flash_bank.specs.Leaving.{KeepsBoot}
 use Rattle.flash_bank.specs.declared.bank.Bank.{Bank}
+use Rattle.ssu_group.specs.Carried.{with_section}
 use Rattle.flash_dev.proofs.Moments.{joined, weaker}
 use Rattle.ssu_loader.specs.Collecting.{HasFilled, HoldsFilling}
 use Rattle.ssu_loader.specs.Settling.{SettlingLeaves}
@@ -12,23 +13,23 @@ use Rattle.ssu_loader.proofs.UnlessLaws.{unless_one}
 use Rattle.ssu_loader.proofs.gather.gather.Goals as goal
 
 pub returns-clause-filled : goal.returns-clause-filled
-returns-clause-filled g c = λ window filled.
+returns-clause-filled g c = λ fills filled.
     let s = g.S.Stage in
     let plan = c.args.choice.now.plan in
-    let more = c.args.section.now ∷ window in
-    let taken = c.in_ok-take_block.ensures.filled window filled in
+    let more = with_section c.args.choice.now.plan c.args.section.now fills in
+    let taken = c.in_ok-take_block.ensures.filled fills filled in
     both_if_ok _ _ _ c.settle.result (λ answer. none_two answer _ _ _ (λ same some.
     (subst (λ (stage : g.row.S.Denot). HasFilled s plan more stage) (sym same.0) taken, some)))
     c.settle.ensures.same (c.settle.ensures.missing more taken)
 
 pub returns-clause-bytes : goal.returns-clause-bytes
-returns-clause-bytes g c = λ tells window filled holds.
+returns-clause-bytes g c = λ tells fills filled holds.
     let s = g.S.Stage in
     let f = g.F.Flash in
     let t = c.take_block.new in
     let plan = c.args.choice.now.plan in
-    let more = c.args.section.now ∷ window in
-    let taken = c.in_ok-take_block.ensures.bytes tells window filled holds in
+    let more = with_section c.args.choice.now.plan c.args.section.now fills in
+    let taken = c.in_ok-take_block.ensures.bytes tells fills filled holds in
     if_ok _ _ c.settle.result (λ answer. none_one answer _ _ (λ same.
     subst (λ (stage : g.row.S.Denot). HoldsFilling s plan more stage c.settle.new.bank (f.contents c.settle.new.flash)) (sym same.0)
     (subst (λ (bank : Bank). HoldsFilling s plan more t.stage bank (f.contents c.settle.new.flash)) (sym same.1)
@@ -36,41 +37,41 @@ returns-clause-bytes g c = λ tells window filled holds.
     c.settle.ensures.same
 
 pub returns-clause-settled : goal.returns-clause-settled
-returns-clause-settled g c = λ tells window filled holds.
+returns-clause-settled g c = λ tells fills filled holds.
     let f = g.F.Flash in
     let t = c.take_block.new in
     let bank = c.args.bank.now in
     let choice = c.args.choice.now in
-    let more = c.args.section.now ∷ window in
+    let more = with_section c.args.choice.now.plan c.args.section.now fills in
     let x = f.contents c.args.flash.now in
     let y = f.contents t.flash in
     let z = f.contents c.settle.new.flash in
     if_ok _ _ c.settle.result (λ answer settles.
     settles_joined choice more bank x y z answer (c.requires.works.lent.fits tells) (c.in_ok-take_block.ensures.held tells)
     (answer_moved choice more bank t.bank y z answer c.in_ok-take_block.ensures.same_bank settles))
-    (c.settle.ensures.settled tells more (c.in_ok-take_block.ensures.filled window filled) (c.in_ok-take_block.ensures.bytes tells window filled holds))
+    (c.settle.ensures.settled tells more (c.in_ok-take_block.ensures.filled fills filled) (c.in_ok-take_block.ensures.bytes tells fills filled holds))
 
 pub returns-clause-held : goal.returns-clause-held
-returns-clause-held g c = λ tells window filled holds.
+returns-clause-held g c = λ tells fills filled holds.
     let f = g.F.Flash in
     let t = c.take_block.new in
     let bank = c.args.bank.now in
     let choice = c.args.choice.now in
-    let more = c.args.section.now ∷ window in
+    let more = with_section c.args.choice.now.plan c.args.section.now fills in
     let x = f.contents c.args.flash.now in
     let y = f.contents t.flash in
     let z = f.contents c.settle.new.flash in
     settling_joined choice more bank x y z (c.requires.works.lent.fits tells) (c.in_ok-take_block.ensures.held tells)
     (settling_moved choice more bank t.bank y z c.in_ok-take_block.ensures.same_bank
-    (c.settle.ensures.held tells more (c.in_ok-take_block.ensures.filled window filled) (c.in_ok-take_block.ensures.bytes tells window filled holds)))
+    (c.settle.ensures.held tells more (c.in_ok-take_block.ensures.filled fills filled) (c.in_ok-take_block.ensures.bytes tells fills filled holds)))
 
 pub returns-clause-left : goal.returns-clause-left
-returns-clause-left g c = λ tells window filled holds.
+returns-clause-left g c = λ tells fills filled holds.
     let f = g.F.Flash in
     let t = c.take_block.new in
     let bank = c.args.bank.now in
     let choice = c.args.choice.now in
-    let more = c.args.section.now ∷ window in
+    let more = with_section c.args.choice.now.plan c.args.section.now fills in
     let x = f.contents c.args.flash.now in
     let y = f.contents t.flash in
     let P : List ℕ → Type 0 = SettlingLeaves choice more bank x in
@@ -79,17 +80,17 @@ returns-clause-left g c = λ tells window filled holds.
     (weaker f.moment f.left_since t.flash c.settle.new.flash (SettlingLeaves choice more t.bank y) P
     (λ z leaves. settling_joined choice more bank x y z (c.requires.works.lent.fits tells) (c.in_ok-take_block.ensures.held tells)
     (settling_moved choice more bank t.bank y z c.in_ok-take_block.ensures.same_bank leaves))
-    (c.settle.ensures.left tells more (c.in_ok-take_block.ensures.filled window filled) (c.in_ok-take_block.ensures.bytes tells window filled holds)))
+    (c.settle.ensures.left tells more (c.in_ok-take_block.ensures.filled fills filled) (c.in_ok-take_block.ensures.bytes tells fills filled holds)))
 
 pub returns-clause-whole : goal.returns-clause-whole
-returns-clause-whole g c = λ window filled. c.settle.ensures.whole (c.args.section.now ∷ window) (c.in_ok-take_block.ensures.filled window filled)
+returns-clause-whole g c = λ fills filled. c.settle.ensures.whole (with_section c.args.choice.now.plan c.args.section.now fills) (c.in_ok-take_block.ensures.filled fills filled)
 
 pub returns-in_err-take_block-clause-left : goal.returns-in_err-take_block-clause-left
-returns-in_err-take_block-clause-left g c = λ tells window filled holds.
+returns-in_err-take_block-clause-left g c = λ tells fills filled holds.
     let f = g.F.Flash in
     let bank = c.args.bank.now in
     let x = f.contents c.args.flash.now in
-    weaker f.moment f.left_since c.args.flash.now c.take_block.new.flash (KeepsBoot (geometry_of bank) x) (SettlingLeaves c.args.choice.now (c.args.section.now ∷ window) bank x)
+    weaker f.moment f.left_since c.args.flash.now c.take_block.new.flash (KeepsBoot (geometry_of bank) x) (SettlingLeaves c.args.choice.now (with_section c.args.choice.now.plan c.args.section.now fills) bank x)
     (λ z leaves. inl leaves) (c.in_err-take_block.ensures.left tells)
 
 pub returns-clause-kept : goal.returns-clause-kept

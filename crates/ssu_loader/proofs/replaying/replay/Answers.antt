@@ -2,7 +2,7 @@ use Rattle.std.proofs.Common.{◌≡◌, ◌⊎◌, ⊎_elim, inl, inr, ℕ, Lis
 use Rattle.std.proofs.lemmas.Result.{err_from_is_err_and}
 use Rattle.std.specs.Prelude.{Err, IfErr, IfOk, IsErrOf, Result}
 use Rattle.flash_bank.specs.Bank.{geometry_of}
-use Rattle.flash_bank.specs.Layout.{Geometry, blocks_of}
+use Rattle.flash_layout.specs.Layout.{Geometry, blocks_of}
 use Rattle.flash_bank.specs.Leaving.{KeepsBoot}
 use Rattle.flash_bank.specs.Runs.{OnlyReads}
 use Rattle.flash_bank.proofs.LeavingLemmas.{keeps_boot_same}

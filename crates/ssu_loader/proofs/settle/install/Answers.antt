@@ -9,19 +9,19 @@ use Rattle.ssu_loader.proofs.SettlingLaws.{finish_settles, image_is, installs_wh
 use Rattle.ssu_loader.proofs.settle.install.Goals as goal
 
 pub returns-in_err-finish-clause-held : goal.returns-in_err-finish-clause-held
-returns-in_err-finish-clause-held g c = λ tells window filled holds right.
+returns-in_err-finish-clause-held g c = λ tells fills filled holds right.
     let s = g.S.Stage in
     let x = g.F.Flash.contents c.args.flash.now in
     let text = s.bytes_at c.args.stage.now c.args.bank.now x in
     let plan = c.args.choice.now.plan in
     let has = s.has c.args.stage.now in
     let outline = s.plan_of c.args.stage.now in
-    finish_settles c.args.choice.now window c.args.bank.now x (g.F.Flash.contents c.finish.new.flash) outline (group_text text outline)
-    c.requires.works.planned (none_missing plan window has filled c.requires.whole)
-    (image_is plan window has filled text holds c.requires.whole outline c.requires.works.planned) right (c.in_err-finish.ensures.held tells)
+    finish_settles c.args.choice.now fills c.args.bank.now x (g.F.Flash.contents c.finish.new.flash) outline (group_text text outline)
+    c.requires.works.planned (none_missing plan fills has filled c.requires.whole)
+    (image_is plan fills has filled text holds.lengths holds.texts c.requires.whole outline c.requires.works.planned) right (c.in_err-finish.ensures.held tells)
 
 pub returns-in_err-finish-clause-left : goal.returns-in_err-finish-clause-left
-returns-in_err-finish-clause-left g c = λ tells window filled holds right.
+returns-in_err-finish-clause-left g c = λ tells fills filled holds right.
     let s = g.S.Stage in
     let f = g.F.Flash in
     let bank = c.args.bank.now in
@@ -31,14 +31,14 @@ returns-in_err-finish-clause-left g c = λ tells window filled holds right.
     let has = s.has c.args.stage.now in
     let outline = s.plan_of c.args.stage.now in
     let P : List ℕ → Type 0 = FinishLeaves (geometry_of bank) (next_record (current_of bank) outline.total choice.software choice.group) (group_text text outline) x in
-    weaker f.moment f.left_since c.args.flash.now c.finish.new.flash P (SettlingLeaves choice window bank x)
-    (λ y. finish_settles choice window bank x y outline (group_text text outline)
-    c.requires.works.planned (none_missing choice.plan window has filled c.requires.whole)
-    (image_is choice.plan window has filled text holds c.requires.whole outline c.requires.works.planned) right)
+    weaker f.moment f.left_since c.args.flash.now c.finish.new.flash P (SettlingLeaves choice fills bank x)
+    (λ y. finish_settles choice fills bank x y outline (group_text text outline)
+    c.requires.works.planned (none_missing choice.plan fills has filled c.requires.whole)
+    (image_is choice.plan fills has filled text holds.lengths holds.texts c.requires.whole outline c.requires.works.planned) right)
     (c.in_err-finish.ensures.left tells)
 
 pub returns-clause-settled : goal.returns-clause-settled
-returns-clause-settled g c = λ tells window filled holds right.
+returns-clause-settled g c = λ tells fills filled holds right.
     let s = g.S.Stage in
     let x = g.F.Flash.contents c.args.flash.now in
     let text = s.bytes_at c.args.stage.now c.args.bank.now x in
@@ -46,25 +46,25 @@ returns-clause-settled g c = λ tells window filled holds right.
     let has = s.has c.args.stage.now in
     let outline = s.plan_of c.args.stage.now in (
       c.chosen.ensures,
-      installs_whole c.args.choice.now window c.args.bank.now x (g.F.Flash.contents c.finish.new.flash) outline (group_text text outline)
-          c.requires.works.planned (none_missing plan window has filled c.requires.whole)
-          (image_is plan window has filled text holds c.requires.whole outline c.requires.works.planned) right (c.in_ok-finish.ensures.done tells),
+      installs_whole c.args.choice.now fills c.args.bank.now x (g.F.Flash.contents c.finish.new.flash) outline (group_text text outline)
+          c.requires.works.planned (none_missing plan fills has filled c.requires.whole)
+          (image_is plan fills has filled text holds.lengths holds.texts c.requires.whole outline c.requires.works.planned) right (c.in_ok-finish.ensures.done tells),
     )
 
 pub returns-clause-held : goal.returns-clause-held
-returns-clause-held g c = λ tells window filled holds right.
+returns-clause-held g c = λ tells fills filled holds right.
     let s = g.S.Stage in
     let x = g.F.Flash.contents c.args.flash.now in
     let text = s.bytes_at c.args.stage.now c.args.bank.now x in
     let plan = c.args.choice.now.plan in
     let has = s.has c.args.stage.now in
     let outline = s.plan_of c.args.stage.now in
-    finish_settles c.args.choice.now window c.args.bank.now x (g.F.Flash.contents c.finish.new.flash) outline (group_text text outline)
-    c.requires.works.planned (none_missing plan window has filled c.requires.whole)
-    (image_is plan window has filled text holds c.requires.whole outline c.requires.works.planned) right (c.in_ok-finish.ensures.held tells)
+    finish_settles c.args.choice.now fills c.args.bank.now x (g.F.Flash.contents c.finish.new.flash) outline (group_text text outline)
+    c.requires.works.planned (none_missing plan fills has filled c.requires.whole)
+    (image_is plan fills has filled text holds.lengths holds.texts c.requires.whole outline c.requires.works.planned) right (c.in_ok-finish.ensures.held tells)
 
 pub returns-clause-left : goal.returns-clause-left
-returns-clause-left g c = λ tells window filled holds right.
+returns-clause-left g c = λ tells fills filled holds right.
     let s = g.S.Stage in
     let f = g.F.Flash in
     let bank = c.args.bank.now in
@@ -74,8 +74,8 @@ returns-clause-left g c = λ tells window filled holds right.
     let has = s.has c.args.stage.now in
     let outline = s.plan_of c.args.stage.now in
     let P : List ℕ → Type 0 = FinishLeaves (geometry_of bank) (next_record (current_of bank) outline.total choice.software choice.group) (group_text text outline) x in
-    weaker f.moment f.left_since c.args.flash.now c.finish.new.flash P (SettlingLeaves choice window bank x)
-    (λ y. finish_settles choice window bank x y outline (group_text text outline)
-    c.requires.works.planned (none_missing choice.plan window has filled c.requires.whole)
-    (image_is choice.plan window has filled text holds c.requires.whole outline c.requires.works.planned) right)
+    weaker f.moment f.left_since c.args.flash.now c.finish.new.flash P (SettlingLeaves choice fills bank x)
+    (λ y. finish_settles choice fills bank x y outline (group_text text outline)
+    c.requires.works.planned (none_missing choice.plan fills has filled c.requires.whole)
+    (image_is choice.plan fills has filled text holds.lengths holds.texts c.requires.whole outline c.requires.works.planned) right)
     (c.in_ok-finish.ensures.left tells)

@@ -11,7 +11,7 @@ loop-part-init g c = record {
   stays = stays_none g.S.Stage g.F.Flash g.met.F.Flash.only_now c.args.stage.now c.args.bank.now c.args.flash.now;
   most = refl;
   later = omega arith;
-  found = λ tells window filled holds. refl;
+  found = λ tells fills filled holds. refl;
 }
 
 pub returns-in_err-wrong_of-clause-stays : goal.returns-in_err-wrong_of-clause-stays
@@ -25,16 +25,16 @@ returns-in-Some-clause-stays g c =
     c.args.flash.now c.loop-part.flash c.wrong_of.new.flash c.loop-part.invariant.stays c.wrong_of.ensures.stays
 
 pub returns-in-Some-clause-wrong : goal.returns-in-Some-clause-wrong
-returns-in-Some-clause-wrong g c = λ tells window filled holds.
+returns-in-Some-clause-wrong g c = λ tells fills filled holds.
     let l = c.loop-part in
     let plan = c.args.plan.now in
-    let image = carried_image plan window in
-    let filled' = filled_stays g.S.Stage g.F.Flash plan window c.args.stage.now l.stage c.args.bank.now l.bank c.args.flash.now l.flash l.invariant.stays filled in
-    let holds' = holds_stays g.S.Stage g.F.Flash plan window c.args.stage.now l.stage c.args.bank.now l.bank c.args.flash.now l.flash tells l.invariant.stays holds in
+    let image = carried_image plan fills in
+    let filled' = filled_stays g.S.Stage g.F.Flash plan fills c.args.stage.now l.stage c.args.bank.now l.bank c.args.flash.now l.flash l.invariant.stays filled in
+    let holds' = holds_stays g.S.Stage g.F.Flash plan fills c.args.stage.now l.stage c.args.bank.now l.bank c.args.flash.now l.flash tells l.invariant.stays holds in
     let P : List ModulePlan → Type 0 = λ modules. (m : ModulePlan) × (find (is_wrong image) modules ≡ Some m) × IsWrong image m c.in-Some.wrong in
     subst P c.as_slice-part-items.ensures.value
     (looked_at image c.as_slice-part-items.result.now l.part-index _ c.in_ok-wrong_of.field-0 c.in-Some.wrong c.loop-part-test.true c.in-Some.is
-    (c.in_ok-wrong_of.ensures.wrong tells window filled' holds') (l.invariant.found tells window filled holds))
+    (c.in_ok-wrong_of.ensures.wrong tells fills filled' holds') (l.invariant.found tells fills filled holds))
 
 pub loop-part-preserved : goal.loop-part-preserved
 loop-part-preserved g c = record {
@@ -43,19 +43,19 @@ loop-part-preserved g c = record {
       c.args.flash.now c.loop-part.flash c.wrong_of.new.flash c.loop-part.invariant.stays c.wrong_of.ensures.stays;
   most = c.wrong_of.ensures.most ∙ c.loop-part.invariant.most;
   later = omega (arith, c.loop-part.invariant.later, c.wrong_of.ensures.cause.later);
-  found = λ tells window filled holds.
+  found = λ tells fills filled holds.
       let l = c.loop-part in
       let plan = c.args.plan.now in
-      let filled' = filled_stays g.S.Stage g.F.Flash plan window c.args.stage.now l.stage c.args.bank.now l.bank c.args.flash.now l.flash l.invariant.stays filled in
-      let holds' = holds_stays g.S.Stage g.F.Flash plan window c.args.stage.now l.stage c.args.bank.now l.bank c.args.flash.now l.flash tells l.invariant.stays holds in
-      looked_on (carried_image plan window) c.as_slice-part-items.result.now l.part-index _ c.in_ok-wrong_of.field-0 c.loop-part-test.true c.in-None.is
-      (c.in_ok-wrong_of.ensures.wrong tells window filled' holds')
-      ∙ l.invariant.found tells window filled holds;
+      let filled' = filled_stays g.S.Stage g.F.Flash plan fills c.args.stage.now l.stage c.args.bank.now l.bank c.args.flash.now l.flash l.invariant.stays filled in
+      let holds' = holds_stays g.S.Stage g.F.Flash plan fills c.args.stage.now l.stage c.args.bank.now l.bank c.args.flash.now l.flash tells l.invariant.stays holds in
+      looked_on (carried_image plan fills) c.as_slice-part-items.result.now l.part-index _ c.in_ok-wrong_of.field-0 c.loop-part-test.true c.in-None.is
+      (c.in_ok-wrong_of.ensures.wrong tells fills filled' holds')
+      ∙ l.invariant.found tells fills filled holds;
 }
 
 pub returns-clause-wrong : goal.returns-clause-wrong
-returns-clause-wrong g c = λ tells window filled holds.
-    let P : List ModulePlan → Type 0 = λ modules. find (is_wrong (carried_image c.args.plan.now window)) modules ≡ None in
+returns-clause-wrong g c = λ tells fills filled holds.
+    let P : List ModulePlan → Type 0 = λ modules. find (is_wrong (carried_image c.args.plan.now fills)) modules ≡ None in
     subst P c.as_slice-part-items.ensures.value
-    (looked_through (carried_image c.args.plan.now window) c.as_slice-part-items.result.now c.loop-part.part-index c.loop-part-test.false
-    (c.loop-part.invariant.found tells window filled holds))
+    (looked_through (carried_image c.args.plan.now fills) c.as_slice-part-items.result.now c.loop-part.part-index c.loop-part-test.false
+    (c.loop-part.invariant.found tells fills filled holds))

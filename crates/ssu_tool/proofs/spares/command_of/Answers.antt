@@ -1,4 +1,4 @@
-use Rattle.std.proofs.Common.{◌≡◌, map}
+use Rattle.std.proofs.Common.{map}
 use Rattle.std.specs.Prelude.{string_bytes}
 use Rattle.ssu_tool.proofs.SparesLemmas.{none_spared}
 use Rattle.ssu_tool.proofs.spares.command_of.Goals as goal

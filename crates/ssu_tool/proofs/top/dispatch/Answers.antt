@@ -27,6 +27,9 @@ returns-in-Format-clause-does g c = rw c.in-Format.is (c.format.ensures.does, (r
 pub returns-in-Boot-clause-does : goal.returns-in-Boot-clause-does
 returns-in-Boot-clause-does g c = rw c.in-Boot.is (c.boot.ensures.does, (refl, refl))
 
+pub returns-in-Migrate-clause-does : goal.returns-in-Migrate-clause-does
+returns-in-Migrate-clause-does g c = rw c.in-Migrate.is (c.migrate.ensures.does, (refl, (refl, refl)))
+
 pub returns-in-Replay-clause-does : goal.returns-in-Replay-clause-does
 returns-in-Replay-clause-does g c = rw c.in-Replay.is (c.replay.ensures.replays, refl)
 

@@ -1,9 +1,9 @@
 use Rattle.std.proofs.Common.{◌≡◌, ℕ, List, eqb-true, eq-eqb, sym, ap, subst, ◌∙◌}
-use Rattle.ssu_group.specs.Carried.{missing_places}
+use Rattle.ssu_group.specs.Carried.{filling, missing_places}
 use Rattle.tool_load.specs.declared.progress.Progress.{Progress}
 use Rattle.tool_load.specs.Progress.{StandsFor, Collects}
 use Rattle.tool_load.proofs.BlocksLaws.{missing_is}
-use Rattle.ssu_group.proofs.SamePlans.{same_missing}
+use Rattle.ssu_group.proofs.SamePlans.{same_filling, same_missing}
 use Rattle.tool_load.proofs.PlanLaws.{one_choice}
 use Rattle.tool_load.proofs.progress.is_whole.Goals as goal
 
@@ -31,8 +31,9 @@ returns-in-Collecting-clause-open c = λ some sections stands reached.
     let count : c.missing.result ≡ 0 =
     c.missing.ensures
     ∙ missing_is blocks.plan blocks.image is.window blocks.is_for is.holds
-    ∙ same_missing blocks.plan reached.plan is.window one.is_plan
-    ∙ ap (missing_places reached.plan) one.is_window
+    ∙ same_missing blocks.plan reached.plan (filling blocks.plan is.window) (filling reached.plan is.window) one.is_plan
+    (λ n. same_filling blocks.plan reached.plan is.window n one.is_plan)
+    ∙ ap (λ (w : List (List ℕ)). missing_places reached.plan (filling reached.plan w)) one.is_window
     ∙ reached.filled in
     let none = eq-eqb c.missing.result 0 count in
     cc

@@ -2,6 +2,7 @@ use Rattle.std.proofs.Common.{◌≡◌, ◌⊎◌, length, ℕ, sym, subst, ari
 use Rattle.flash_dev.specs.Changes.{Changes, IsBlank, IsProgrammed, IsTornProgram}
 use Rattle.flash_dev.specs.Moments.{Elapses}
 use Rattle.flash_remap.specs.Logical.{IsLeft, logical}
+use Rattle.flash_remap.specs.Seen.{Places}
 use Rattle.flash_remap.specs.Shape.{geometry}
 use Rattle.flash_remap.proofs.LeavingLemmas.{err_map, ok_map}
 use Rattle.flash_remap.proofs.RemapLemmas.{lies_in_block}
@@ -88,3 +89,8 @@ returns-clause-counts g c both goes t left le torn =
     let y = logical (geometry new.layout) (F.contents new.inner) in
     let place = sym c.parts-block.ensures.is in
     c.change.ensures.counts both.0 both.1 goes t left le (subst (λ (p : ℕ). Changes p n (IsTornProgram bytes) x left) (sym place) torn)
+
+pub returns-clause-places : goal.returns-clause-places
+returns-clause-places g c =
+    let me = c.args.self.now in
+    subst (λ (b : ℕ). Places b me c.change.new.self c.change.result) c.parts-block.ensures.block_is c.change.ensures.places

@@ -17,7 +17,7 @@ returns-clause-done g c tells =
     let y = g.F.Flash.contents c.commit.new.flash in
     let new = next_record (current_of b) s.total c.args.software c.args.group in
     on_ok (Commits (geometry_of b) (boot_of (geometry_of b) x new) x y) _ c.commit.result
-    (λ commits. committed_installs b x (c.requires.lent.fits tells) new (group_text (bytes_in_bank s b x) (outline_in_bank s)) y (whole_bank s b x c.requires.ready c.args.software c.args.group) (c.commit.ensures.held tells) commits)
+    (λ commits. committed_installs b x (c.requires.lent.fits tells) new (group_text (bytes_in_bank s b x) (outline_in_bank s)) y (whole_bank s b x (c.requires.lent.fits tells) (c.requires.agrees tells).journal c.requires.ready c.args.software c.args.group) (c.commit.ensures.held tells) commits)
     (c.commit.ensures.committed tells)
 
 pub returns-clause-held : goal.returns-clause-held
@@ -27,7 +27,7 @@ returns-clause-held g c tells =
     let x = g.F.Flash.contents c.args.flash.now in
     let y = g.F.Flash.contents c.commit.new.flash in
     let new = next_record (current_of b) s.total c.args.software c.args.group in
-    committed_leaves b x (c.requires.lent.fits tells) new (group_text (bytes_in_bank s b x) (outline_in_bank s)) y (whole_bank s b x c.requires.ready c.args.software c.args.group) (c.commit.ensures.held tells)
+    committed_leaves b x (c.requires.lent.fits tells) new (group_text (bytes_in_bank s b x) (outline_in_bank s)) y (whole_bank s b x (c.requires.lent.fits tells) (c.requires.agrees tells).journal c.requires.ready c.args.software c.args.group) (c.commit.ensures.held tells)
 
 pub returns-clause-left : goal.returns-clause-left
 returns-clause-left g c tells =
@@ -36,4 +36,4 @@ returns-clause-left g c tells =
     let x = g.F.Flash.contents c.args.flash.now in
     let new = next_record (current_of b) s.total c.args.software c.args.group in
     weaker g.F.Flash.moment g.F.Flash.left_since c.args.flash.now c.commit.new.flash (LeavesCommitted b new x) _
-    (λ y. committed_leaves b x (c.requires.lent.fits tells) new (group_text (bytes_in_bank s b x) (outline_in_bank s)) y (whole_bank s b x c.requires.ready c.args.software c.args.group)) (c.commit.ensures.left tells)
+    (λ y. committed_leaves b x (c.requires.lent.fits tells) new (group_text (bytes_in_bank s b x) (outline_in_bank s)) y (whole_bank s b x (c.requires.lent.fits tells) (c.requires.agrees tells).journal c.requires.ready c.args.software c.args.group)) (c.commit.ensures.left tells)

@@ -1,4 +1,4 @@
-use Rattle.std.proofs.Common.{◌≡◌, ℕ, ◌+◌, ◌≤◌, false, sym, subst, ◌∙◌, arith}
+use Rattle.std.proofs.Common.{◌≡◌, ℕ, ◌+◌, ◌≤◌, length, false, sym, subst, ◌∙◌, arith}
 use Rattle.flash_dev.specs.Changes.{Changes, IsProgrammed}
 use Rattle.flash_dev.proofs.Moments.{started, weaker}
 use Rattle.flash_bank.specs.Bank.{LeavesFilled, geometry_of, spare_bank}
@@ -6,7 +6,8 @@ use Rattle.group_image.proofs.ImageLaws.{place_below}
 use Rattle.ssu_group.specs.Map.{marked}
 use Rattle.flash_stage.specs.InBank.{bytes_in_bank}
 use Rattle.flash_stage.specs.Leaving.{SameBank}
-use Rattle.flash_stage.proofs.InBankLemmas.{inside_plan, new_bytes, other_number, plan_in_bank, still_blank, still_bytes, unmarked}
+use Rattle.flash_stage.proofs.InBankLemmas.{inside_plan, new_bytes, other_number, plan_in_bank, same_journal, still_blank, still_bytes, unmarked}
+use Rattle.flash_bank.proofs.BankLemmas.{still_blank_journal}
 use Rattle.flash_bank.proofs.LeavingLemmas.{filled_keeps_boot, keeps_boot_same}
 use Rattle.flash_bank.specs.Leaving.{KeepsBoot}
 use Rattle.flash_stage.proofs.LeavingLaws.{len_same}
@@ -59,16 +60,23 @@ returns-clause-left g c tells =
     (λ y. filled_keeps_boot c.args.bank.now x (c.requires.lent.fits tells) c.args.place.at c.args.bytes.now y (omega (arith, inside, c.requires.length, c.requires.ready.fits))) (c.fill.ensures.left tells)
 
 pub returns-clause-agrees : goal.returns-clause-agrees
-returns-clause-agrees g c tells number p at free =
+returns-clause-agrees g c tells =
     let s = c.args.self.now in
     let b = c.args.bank.now in
     let x = g.F.Flash.contents c.args.flash.now in
     let y = g.F.Flash.contents c.fill.new.flash in
     let same : SameBank b c.fill.new.self = record { geometry = c.fill.ensures.geometry; current = c.fill.ensures.current; block = c.fill.ensures.block } in
-    let was = unmarked number c.args.place.number (marked s.map number) (marked c.mark.new.self number) (c.mark.ensures.marked number) free in
-    let changes = subst (λ (n : ℕ). Changes (spare_bank b + c.args.place.at) n (IsProgrammed c.args.bytes.now) x y) c.requires.length (c.in_ok-fill.ensures.filled tells) in
-    still_blank (plan_in_bank s b c.requires.ready) b c.fill.new.self (IsProgrammed c.args.bytes.now) x y number c.args.place.number p c.args.place same at c.requires.place was.0 changes
-    (c.requires.agrees tells number p at was.1)
+    let filled = c.in_ok-fill.ensures.filled tells in
+    let changes = subst (λ (n : ℕ). Changes (spare_bank b + c.args.place.at) n (IsProgrammed c.args.bytes.now) x y) c.requires.length filled in
+    let inside = inside_plan (plan_in_bank s b c.requires.ready) c.args.place.number c.args.place c.requires.place in
+    record {
+      places = λ number p at free.
+          let was = unmarked number c.args.place.number (marked s.map number) (marked c.mark.new.self number) (c.mark.ensures.marked number) free in
+          still_blank (plan_in_bank s b c.requires.ready) b c.fill.new.self (IsProgrammed c.args.bytes.now) x y number c.args.place.number p c.args.place same at c.requires.place was.0 changes
+          ((c.requires.agrees tells).places number p at was.1);
+      journal = same_journal b c.fill.new.self y same (λ two. still_blank_journal b two c.args.place.at (length c.args.bytes.now) (IsProgrammed c.args.bytes.now) x y
+          (omega (arith, inside, c.requires.length, c.requires.ready.fits)) filled ((c.requires.agrees tells).journal two));
+    }
 
 pub returns-clause-new_bytes : goal.returns-clause-new_bytes
 unfolding bytes_in_bank

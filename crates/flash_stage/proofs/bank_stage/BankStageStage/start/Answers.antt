@@ -3,8 +3,9 @@ use Rattle.ssu_group.specs.Place.{place_at}
 use Rattle.ssu_group.specs.declared.module_plan.ModulePlan.{ModulePlan}
 use Rattle.flash_dev.proofs.Moments.{weaker}
 use Rattle.flash_bank.specs.Bank.{LeavesBegun, geometry_of}
+use Rattle.flash_bank.proofs.BankLemmas.{blank_bank, blank_journal}
 use Rattle.flash_stage.specs.Leaving.{SameBank}
-use Rattle.flash_stage.proofs.InBankLemmas.{blank_place, few_places}
+use Rattle.flash_stage.proofs.InBankLemmas.{blank_place, few_places, same_journal}
 use Rattle.flash_stage.proofs.bank_stage.BankStageStage.start.Goals as goal
 
 pub clear-requires : goal.clear-requires
@@ -27,9 +28,16 @@ returns-clause-left g c tells =
     weaker g.F.Flash.moment g.F.Flash.left_since c.args.flash.now c.begin.new.flash (LeavesBegun (geometry_of c.args.bank.now) x) _ (λ y leaves. leaves.keeps) (c.begin.ensures.left tells)
 
 pub returns-clause-agrees : goal.returns-clause-agrees
-returns-clause-agrees g c tells number p at free =
+returns-clause-agrees g c tells =
     let plan = c.args.plan.now in
-    let same : SameBank c.args.bank.now c.begin.new.self = record { geometry = c.begin.ensures.geometry; current = c.begin.ensures.current; block = c.begin.ensures.block } in
-    let there : place_at plan.block_size plan.modules.items number ≡ Some p =
-    subst (λ (ms : List ModulePlan). place_at plan.block_size ms number ≡ Some p) (c.replace.ensures.items ∙ c.as_slice.ensures.value) at in
-    blank_place plan c.args.bank.now c.begin.new.self (g.F.Flash.contents c.begin.new.flash) number p same c.requires.inside (c.in_ok-begin.ensures.erased_bank tells) there
+    let b = c.args.bank.now in
+    let y = g.F.Flash.contents c.begin.new.flash in
+    let same : SameBank b c.begin.new.self = record { geometry = c.begin.ensures.geometry; current = c.begin.ensures.current; block = c.begin.ensures.block } in
+    let erased = c.in_ok-begin.ensures.erased_area tells in
+    record {
+      places = λ number p at free.
+          let there : place_at plan.block_size plan.modules.items number ≡ Some p =
+          subst (λ (ms : List ModulePlan). place_at plan.block_size ms number ≡ Some p) (c.replace.ensures.items ∙ c.as_slice.ensures.value) at in
+          blank_place plan b c.begin.new.self y number p same c.requires.inside (blank_bank b y erased) there;
+      journal = same_journal b c.begin.new.self y same (λ two. blank_journal b two y erased);
+    }

@@ -1,16 +1,17 @@
-use Rattle.std.proofs.Common.{◌≡◌, ◌+◌, ◌<◌, ◌≤◌, ℕ, List, ◌∷◌, inl, sym, ap, subst, ◌∙◌, arith}
+use Rattle.std.proofs.Common.{◌≡◌, ◌+◌, ◌<◌, ◌≤◌, ℕ, ◌∷◌, inl, sym, ap, subst, ◌∙◌, arith}
 use Rattle.flash_bank.proofs.LeavingLemmas.{keeps_boot_same}
 use Rattle.flash_bank.specs.Bank.{geometry_of}
 use Rattle.flash_bank.specs.Leaving.{KeepsBoot}
 use Rattle.flash_dev.proofs.Moments.{weaker}
-use Rattle.ssu_group.specs.Carried.{missing_places}
+use Rattle.ssu_group.specs.Carried.{Fills, missing_places}
+use Rattle.ssu_loader.proofs.KeptLaws.{begins_empty}
 use Rattle.ssu_route.specs.Windows.{beginnings}
 use Rattle.ssu_route.proofs.Choices.{one_more_begins}
 use Rattle.ssu_loader.specs.Collecting.{HasFilled, HoldsFilling}
 use Rattle.ssu_loader.specs.Decisions.{TooMany}
 use Rattle.ssu_loader.specs.Leaving.{SectionsLeave}
 use Rattle.ssu_loader.proofs.AnsweringLaws.{if_ok, inside_if_ok, none_from, three_if_ok}
-use Rattle.ssu_loader.proofs.ChoiceLaws.{all_missing, begun_stands, begun_window, choice_fits, none_at}
+use Rattle.ssu_loader.proofs.ChoiceLaws.{all_missing, begun_stands, choice_fits, none_at}
 use Rattle.ssu_loader.proofs.CollectingLaws.{begun_seen, choice_collects}
 use Rattle.ssu_loader.proofs.DecisionLaws.{few_begin, missing_decides, open_more, reached_now, sixteen_begin}
 use Rattle.ssu_loader.proofs.LeftLaws.{left_now}
@@ -54,18 +55,18 @@ returns-in-Some-clause-collects g c = λ me item heard ahead.
     let new = c.start.new in
     let choice = c.in-Some.choice.now in
     let is = c.in-Some.ensures.chosen me (item ∷ heard) ahead.stands in
-    let none = begun_window me item heard ahead.changes in
+    let none = begins_empty me ahead.gathers.opens item heard choice.plan ahead.changes in
     let more : beginnings me (item ∷ heard) ≡ beginnings me heard + 1 = one_more_begins me item heard ahead.changes in
     let count : self.choices ≡ beginnings me heard = ahead.gathers.knows.counted in
     let few : self.choices ≤ 16 = ahead.gathers.knows.few in
     let below : beginnings me heard < 16 = grind (arith, count, few, c.if-self-eq-MAX_CHOICES.false) in
-    let missing = subst (λ (w : List (List ℕ)). 1 ≤ missing_places choice.plan w) (sym none) (all_missing choice.plan) in
+    let missing = subst (λ (w : Fills). 1 ≤ missing_places choice.plan w) (sym none) (all_missing choice.plan) in
     three_if_ok _ _ _ _ c.start.result (λ answer works empty bytes. none_from answer _ (
     choice_collects s f g.met.S.Stage.in_bank_begun me item heard self (record { bank = new.bank; stage = new.stage; route = self.route; choices = self.choices + 1 }) c.args.flash.now new.flash choice
     ahead.stands is ahead.gathers c.start.ensures.same_bank c.start.ensures.most (ap (λ (n : ℕ). n + 1) count ∙ sym more) (omega (arith, below, count)) works
     (open_more me item heard ahead.gathers.knows.undecided (missing_decides me (item ∷ heard) choice is missing (few_begin me item heard below)))
-    (subst (λ (w : List (List ℕ)). HasFilled s choice.plan w new.stage) (sym none) empty)
-    (λ tells. subst (λ (w : List (List ℕ)). HoldsFilling s choice.plan w new.stage new.bank (f.contents new.flash)) (sym none) (bytes tells))))
+    (subst (λ (w : Fills). HasFilled s choice.plan w new.stage) (sym none) empty)
+    (λ tells. subst (λ (w : Fills). HoldsFilling s choice.plan w new.stage new.bank (f.contents new.flash)) (sym none) (bytes tells))))
     c.start.ensures.works c.start.ensures.empty (inside_if_ok _ _ c.start.result c.start.ensures.bytes)
 
 pub returns-in-Some-clause-left : goal.returns-in-Some-clause-left
@@ -92,11 +93,11 @@ returns-in-Some-clause-seen g c = λ me item heard ahead.
     let self = c.args.self.now in
     let choice = c.in-Some.choice.now in
     let is = c.in-Some.ensures.chosen me (item ∷ heard) ahead.stands in
-    let none = begun_window me item heard ahead.changes in
+    let none = begins_empty me ahead.gathers.opens item heard choice.plan ahead.changes in
     let count : self.choices ≡ beginnings me heard = ahead.gathers.knows.counted in
     let few : self.choices ≤ 16 = ahead.gathers.knows.few in
     let below : beginnings me heard < 16 = grind (arith, count, few, c.if-self-eq-MAX_CHOICES.false) in
-    let missing = subst (λ (w : List (List ℕ)). 1 ≤ missing_places choice.plan w) (sym none) (all_missing choice.plan) in
+    let missing = subst (λ (w : Fills). 1 ≤ missing_places choice.plan w) (sym none) (all_missing choice.plan) in
     if_ok _ _ c.start.result (λ answer never. begun_seen me (item ∷ heard) answer never
     (open_more me item heard ahead.gathers.knows.undecided (missing_decides me (item ∷ heard) choice is missing (few_begin me item heard below))))
     c.start.ensures.none

@@ -1,7 +1,8 @@
 use Rattle.std.proofs.Common.{◌≤◌, ℕ, ap, subst, ◌∙◌}
 use Rattle.flash_stage.specs.Outline.{Outline}
 use Rattle.ssu_group.specs.Map.{missing_below}
-use Rattle.ssu_route.specs.Windows.{beginnings, window}
+use Rattle.ssu_route.specs.Windows.{beginnings}
+use Rattle.ssu_loader.specs.Opening.{fills_at}
 use Rattle.ssu_loader.proofs.ChoiceLaws.{choice_stands, none_at, some_at}
 use Rattle.ssu_loader.proofs.DecisionLaws.{standing_none}
 use Rattle.ssu_loader.proofs.SettlingLaws.{missing_is}
@@ -23,7 +24,7 @@ returns-in-Some g c = λ me heard stands knows.
     let is = c.in-Some.ensures.chosen me heard stands in
     let few : beginnings me heard ≤ 16 = subst (λ (n : ℕ). n ≤ 16) knows.counted knows.few in
     let some = some_at _ c.choice.result c.in-Some.choice c.in-Some.is (c.choice.ensures.standing me heard stands) in
-    let count = missing_is plan (window me heard) (s.has stage) (knows.filled choice is) in (
+    let count = missing_is plan (fills_at me heard plan) (s.has stage) (knows.filled choice is) in (
       knows.undecided,
       record {
         choice = choice;

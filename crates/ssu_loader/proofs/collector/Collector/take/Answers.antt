@@ -6,7 +6,9 @@ use Rattle.flash_dev.proofs.Moments.{weaker}
 use Rattle.route_tables.specs.Next.{heard_on}
 use Rattle.ssu_route.specs.Choosing.{level_7}
 use Rattle.ssu_route.specs.Queries.{carousel_pid}
-use Rattle.ssu_route.specs.Windows.{window}
+use Rattle.ssu_group.specs.Carried.{with_section}
+use Rattle.ssu_loader.specs.Opening.{fills_at}
+use Rattle.ssu_loader.proofs.KeptLaws.{fills_joins, fills_passes}
 use Rattle.ssu_route.specs.declared.change.Change.TheVariants as change
 use Rattle.ssu_route.proofs.Choices.{section_joins}
 use Rattle.ssu_loader.specs.Collecting.{HoldsFilling}
@@ -51,14 +53,14 @@ returns-then-is_on-clause-collects g c = λ me heard ahead.
     let flash = c.args.flash.now in
     let choice = c.in-Some.choice.now in
     let item = heard_on c.args.pid c.args.section.now in
-    let w = window me heard in
+    let w = fills_at me heard choice.plan in
     let new = c.gather.new in
     let is = c.in-Some.ensures.chosen me (item ∷ heard) ahead.stands in
     let some : IsSome (level_7 me (item ∷ heard)) = some_at _ c.choice.result c.in-Some.choice c.in-Some.is (c.choice.ensures.standing me (item ∷ heard) ahead.stands) in
     let on : carousel_pid me (item ∷ heard) ≡ Some c.args.pid = sym (c.carousel.ensures me (item ∷ heard) ahead.stands) ∙ c.is_on.ensures.yes c.if-is_on.true in
-    let joins : window me (item ∷ heard) ≡ c.args.section.now ∷ w = section_joins me item heard c.args.pid ahead.changes some on refl in
+    let joins : fills_at me (item ∷ heard) choice.plan ≡ with_section choice.plan c.args.section.now w = fills_joins me item heard choice.plan ahead.changes (section_joins me item heard c.args.pid ahead.changes some on refl) in
     five_where_none c.gather.result _ _ _ _
-    (f.tells → HoldsFilling s choice.plan (c.args.section.now ∷ w) new.stage new.bank (f.contents new.flash)) _
+    (f.tells → HoldsFilling s choice.plan (with_section choice.plan c.args.section.now w) new.stage new.bank (f.contents new.flash)) _
     (λ works bank most filled holds. taken_collects s f me item heard self flash choice ahead is some joins g.met.S.Stage.in_bank_begun new.stage new.bank new.flash works bank most filled holds)
     c.gather.ensures.works (unless_none c.gather.result _ c.gather.ensures.same_bank) c.gather.ensures.most
     (c.gather.ensures.filled w (taken_filled s f me item heard self flash choice ahead is some joins))
@@ -73,11 +75,11 @@ returns-then-is_on-clause-goes_on g c = λ tells me heard ahead.
     let flash = c.args.flash.now in
     let choice = c.in-Some.choice.now in
     let item = heard_on c.args.pid c.args.section.now in
-    let w = window me heard in
+    let w = fills_at me heard choice.plan in
     let is = c.in-Some.ensures.chosen me (item ∷ heard) ahead.stands in
     let some : IsSome (level_7 me (item ∷ heard)) = some_at _ c.choice.result c.in-Some.choice c.in-Some.is (c.choice.ensures.standing me (item ∷ heard) ahead.stands) in
     let on : carousel_pid me (item ∷ heard) ≡ Some c.args.pid = sym (c.carousel.ensures me (item ∷ heard) ahead.stands) ∙ c.is_on.ensures.yes c.if-is_on.true in
-    let joins : window me (item ∷ heard) ≡ c.args.section.now ∷ w = section_joins me item heard c.args.pid ahead.changes some on refl in
+    let joins : fills_at me (item ∷ heard) choice.plan ≡ with_section choice.plan c.args.section.now w = fills_joins me item heard choice.plan ahead.changes (section_joins me item heard c.args.pid ahead.changes some on refl) in
     both_if_ok _ _ _ c.gather.result (λ answer kept settled.
     taken_goes_on s f me item heard self flash choice ahead is some joins tells (f.contents flash) (f.contents c.gather.new.flash) answer kept settled)
     (c.gather.ensures.kept tells)
@@ -91,11 +93,11 @@ returns-then-is_on-clause-held g c = λ tells me heard ahead.
     let flash = c.args.flash.now in
     let choice = c.in-Some.choice.now in
     let item = heard_on c.args.pid c.args.section.now in
-    let w = window me heard in
+    let w = fills_at me heard choice.plan in
     let is = c.in-Some.ensures.chosen me (item ∷ heard) ahead.stands in
     let some : IsSome (level_7 me (item ∷ heard)) = some_at _ c.choice.result c.in-Some.choice c.in-Some.is (c.choice.ensures.standing me (item ∷ heard) ahead.stands) in
     let on : carousel_pid me (item ∷ heard) ≡ Some c.args.pid = sym (c.carousel.ensures me (item ∷ heard) ahead.stands) ∙ c.is_on.ensures.yes c.if-is_on.true in
-    let joins : window me (item ∷ heard) ≡ c.args.section.now ∷ w = section_joins me item heard c.args.pid ahead.changes some on refl in
+    let joins : fills_at me (item ∷ heard) choice.plan ≡ with_section choice.plan c.args.section.now w = fills_joins me item heard choice.plan ahead.changes (section_joins me item heard c.args.pid ahead.changes some on refl) in
     taken_leaves s f me item heard self flash choice ahead is some joins tells (f.contents flash) (f.contents c.gather.new.flash)
     (c.gather.ensures.held tells w (taken_filled s f me item heard self flash choice ahead is some joins) (taken_holds s f me item heard self flash choice ahead is some joins tells))
 
@@ -107,13 +109,13 @@ returns-then-is_on-clause-left g c = λ tells me heard ahead.
     let flash = c.args.flash.now in
     let choice = c.in-Some.choice.now in
     let item = heard_on c.args.pid c.args.section.now in
-    let w = window me heard in
+    let w = fills_at me heard choice.plan in
     let x = f.contents flash in
     let is = c.in-Some.ensures.chosen me (item ∷ heard) ahead.stands in
     let some : IsSome (level_7 me (item ∷ heard)) = some_at _ c.choice.result c.in-Some.choice c.in-Some.is (c.choice.ensures.standing me (item ∷ heard) ahead.stands) in
     let on : carousel_pid me (item ∷ heard) ≡ Some c.args.pid = sym (c.carousel.ensures me (item ∷ heard) ahead.stands) ∙ c.is_on.ensures.yes c.if-is_on.true in
-    let joins : window me (item ∷ heard) ≡ c.args.section.now ∷ w = section_joins me item heard c.args.pid ahead.changes some on refl in
-    weaker f.moment f.left_since flash c.gather.new.flash (SettlingLeaves choice (c.args.section.now ∷ w) self.bank x) (SectionsLeave me (item ∷ heard) self.bank x)
+    let joins : fills_at me (item ∷ heard) choice.plan ≡ with_section choice.plan c.args.section.now w = fills_joins me item heard choice.plan ahead.changes (section_joins me item heard c.args.pid ahead.changes some on refl) in
+    weaker f.moment f.left_since flash c.gather.new.flash (SettlingLeaves choice (with_section choice.plan c.args.section.now w) self.bank x) (SectionsLeave me (item ∷ heard) self.bank x)
     (λ z leaves. taken_leaves s f me item heard self flash choice ahead is some joins tells x z leaves)
     (c.gather.ensures.left tells w (taken_filled s f me item heard self flash choice ahead is some joins) (taken_holds s f me item heard self flash choice ahead is some joins tells))
 
@@ -126,7 +128,7 @@ returns-else-is_on-clause-collects g c = λ me heard ahead.
     let is = c.in-Some.ensures.chosen me (item ∷ heard) ahead.stands in
     let some : IsSome (level_7 me (item ∷ heard)) = some_at _ c.choice.result c.in-Some.choice c.in-Some.is (c.choice.ensures.standing me (item ∷ heard) ahead.stands) in
     let off : carousel_pid me (item ∷ heard) ≢ Some c.args.pid = λ on. c.is_on.ensures.no c.if-is_on.false (c.carousel.ensures me (item ∷ heard) ahead.stands ∙ on) in
-    passed_collects s f me item heard c.args.self.now c.args.flash.now choice ahead is some g.met.S.Stage.in_bank_begun (passes_by me item heard ahead.changes some off)
+    passed_collects s f me item heard c.args.self.now c.args.flash.now choice ahead is some g.met.S.Stage.in_bank_begun (fills_passes me item heard choice.plan ahead.changes (passes_by me item heard ahead.changes some off))
 
 pub returns-else-is_on-clause-goes_on : goal.returns-else-is_on-clause-goes_on
 returns-else-is_on-clause-goes_on g c = λ tells me heard ahead.
@@ -154,11 +156,11 @@ returns-then-is_on-clause-seen g c = λ me heard ahead.
     let flash = c.args.flash.now in
     let choice = c.in-Some.choice.now in
     let item = heard_on c.args.pid c.args.section.now in
-    let w = window me heard in
+    let w = fills_at me heard choice.plan in
     let is = c.in-Some.ensures.chosen me (item ∷ heard) ahead.stands in
     let some : IsSome (level_7 me (item ∷ heard)) = some_at _ c.choice.result c.in-Some.choice c.in-Some.is (c.choice.ensures.standing me (item ∷ heard) ahead.stands) in
     let on : carousel_pid me (item ∷ heard) ≡ Some c.args.pid = sym (c.carousel.ensures me (item ∷ heard) ahead.stands) ∙ c.is_on.ensures.yes c.if-is_on.true in
-    let joins : window me (item ∷ heard) ≡ c.args.section.now ∷ w = section_joins me item heard c.args.pid ahead.changes some on refl in
+    let joins : fills_at me (item ∷ heard) choice.plan ≡ with_section choice.plan c.args.section.now w = fills_joins me item heard choice.plan ahead.changes (section_joins me item heard c.args.pid ahead.changes some on refl) in
     both_if_ok _ _ _ c.gather.result (λ answer filled whole.
     taken_seen s f me item heard self flash choice ahead is some joins c.gather.new.stage answer filled whole)
     (c.gather.ensures.filled w (taken_filled s f me item heard self flash choice ahead is some joins))
@@ -179,8 +181,7 @@ returns-else-is_on-clause-seen g c = λ me heard ahead.
     let flash = c.args.flash.now in
     let choice = c.in-Some.choice.now in
     let item = heard_on c.args.pid c.args.section.now in
-    let w = window me heard in
     let is = c.in-Some.ensures.chosen me (item ∷ heard) ahead.stands in
     let some : IsSome (level_7 me (item ∷ heard)) = some_at _ c.choice.result c.in-Some.choice c.in-Some.is (c.choice.ensures.standing me (item ∷ heard) ahead.stands) in
     let off : carousel_pid me (item ∷ heard) ≢ Some c.args.pid = λ on. c.is_on.ensures.no c.if-is_on.false (c.carousel.ensures me (item ∷ heard) ahead.stands ∙ on) in
-    (passed_collects s f me item heard self flash choice ahead is some g.met.S.Stage.in_bank_begun (passes_by me item heard ahead.changes some off)).gathers.knows.undecided
+    (passed_collects s f me item heard self flash choice ahead is some g.met.S.Stage.in_bank_begun (fills_passes me item heard choice.plan ahead.changes (passes_by me item heard ahead.changes some off))).gathers.knows.undecided

@@ -1,6 +1,6 @@
 use Rattle.std.proofs.Common.{◌≡◌, ◌<◌, sym, subst, ap, ◌∙◌}
 use Rattle.flash_bank.specs.Bank.{IsLent, current_of, geometry_of}
-use Rattle.flash_bank.specs.Layout.{Geometry, blocks_of}
+use Rattle.flash_layout.specs.Layout.{Geometry, blocks_of}
 use Rattle.flash_bank.specs.Sound.{IsWorn}
 use Rattle.flash_bank.specs.declared.bank.Bank.{Bank}
 use Rattle.std.specs.Prelude.{Err}

@@ -2,6 +2,7 @@ use Rattle.std.proofs.Common.{◌≡◌, ℕ, List, [], ◌∷◌, refl, sym, su
 use Rattle.flash_bank.specs.Bank.{current_of, len_of}
 use Rattle.ts_section.specs.Events.{Event, Heard, Listen}
 use Rattle.ts_section.specs.Hearing.{Hears}
+use Rattle.route_tables.specs.Values.{nothing_open}
 use Rattle.ssu_route.specs.Queries.{listened}
 use Rattle.ssu_route.specs.Route.{Stands}
 use Rattle.ssu_route.proofs.Following.{followed_none, heard_none}
@@ -10,7 +11,7 @@ use Rattle.ssu_loader.proofs.loader.Loader.with_bank.Goals as goal
 
 pub returns-clause-fresh : goal.returns-clause-fresh
 returns-clause-fresh g c =
-    let me = receiver_of c.args.me.now (len_of c.args.bank) (current_of c.args.bank).software in
+    let me = receiver_of c.args.me.now (len_of c.args.bank) (current_of c.args.bank).software nothing_open in
     let stands = c.in_ok-route.ensures.stands me refl (sym c.bank_len.ensures.value) in
     let pids : c.listens-pids.result.items ≡ listened me [] = c.listens-pids.ensures me [] stands in
     let hears = subst (λ (items : List ℕ). Hears c.listen.new.self (Listen items ∷ [])) pids (c.listen.ensures.stands [] c.in_ok-hearer.ensures) in

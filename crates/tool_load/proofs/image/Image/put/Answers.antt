@@ -4,8 +4,8 @@ use Rattle.group_image.proofs.ImageLaws.{place_below, place_inside}
 use Rattle.tool_load.proofs.GrowingLaws.{laid_within}
 use Rattle.tool_load.proofs.image.Image.put.Goals as goal
 
-pub lay-requires : goal.lay-requires
-lay-requires c =
+pub write_padded-requires : goal.write_padded-requires
+write_padded-requires c =
     let of = c.requires.place in
     let inside : c.args.place.at + c.args.place.len ≤ of.plan.total = place_inside of.plan c.args.place of.is_place in
     let same : c.self.inside.total ≡ c.args.self.now.total = ap (λ (i : Collected). i.total) c.self.view_is in
@@ -25,4 +25,4 @@ invariant_of-self c =
     let same : c.self.inside.total ≡ c.args.self.now.total = ap (λ (i : Collected). i.total) c.self.view_is in
     let fits : c.args.place.at + length c.args.bytes.now ≤ c.self.inside.total = omega (arith, inside, same, of.is_for.total, c.requires.length) in
     let within = laid_within c.self.inside.buffer.items c.args.bytes.now c.args.place.at c.self.inside.total (omega (arith, c.self.invariant.0)) fits in
-    (omega (arith, within, ap length c.lay.ensures.bytes), omega (arith, c.self.invariant.1, c.lay.ensures.room))
+    (omega (arith, within, ap length c.write_padded.ensures.bytes), omega (arith, c.self.invariant.1, c.write_padded.ensures.room))

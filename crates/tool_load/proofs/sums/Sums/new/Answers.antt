@@ -7,6 +7,6 @@ use Rattle.tool_load.proofs.sums.Sums.new.Goals as goal
 
 pub returns : goal.returns
 returns c = λ image.
-    let none = c.none_from.result in
+    let none = c.empty_at.result in
     All-same (IsSum c.args.plan.now image) (none ∷ c.in_ok-done.done.items) (none ∷ []) (ap (λ (xs : List Sum). none ∷ xs) c.in_ok-done.ensures.items)
-    (sums_none c.args.plan.now image none c.none_from.ensures)
+    (sums_none c.args.plan.now image none c.empty_at.ensures)

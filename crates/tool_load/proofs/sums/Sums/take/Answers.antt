@@ -5,8 +5,8 @@ use Rattle.tool_load.specs.Growing.{IsSum}
 use Rattle.tool_load.proofs.GrowingLaws.{all_kept, sum_first, sums_begun, sums_longer}
 use Rattle.tool_load.proofs.sums.Sums.take.Goals as goal
 
-pub returns-then-len-lt-LEAST : goal.returns-then-len-lt-LEAST
-returns-then-len-lt-LEAST c = λ plan old new fills all. all_kept plan old new c.args.place c.args.bytes.now c.args.self.now fills all
+pub returns-then-len-lt-MIN_JOINED : goal.returns-then-len-lt-MIN_JOINED
+returns-then-len-lt-MIN_JOINED c = λ plan old new fills all. all_kept plan old new c.args.place c.args.bytes.now c.args.self.now fills all
 
 pub returns-in-Some : goal.returns-in-Some
 returns-in-Some c = λ plan old new fills all.
@@ -14,7 +14,7 @@ returns-in-Some c = λ plan old new fills all.
     let bytes = c.args.bytes.now in
     let was = subst (λ (xs : List Sum). All (IsSum plan old) xs) (sym c.self.view_is) all in
     sums_begun plan old new place bytes c.self.inside.last c.in-Some.sum c.self.inside.done.items c.keep.new.done.items fills c.keep.ensures was
-    (sum_first plan old new place bytes c.none_from.result c.in-Some.sum fills c.none_from.ensures c.in-Some.ensures)
+    (sum_first plan old new place bytes c.empty_at.result c.in-Some.sum fills c.empty_at.ensures c.in-Some.ensures)
 
 pub returns-in_default : goal.returns-in_default
 returns-in_default c = λ plan old new fills all. all_kept plan old new c.args.place c.args.bytes.now c.args.self.now fills all

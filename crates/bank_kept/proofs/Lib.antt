@@ -1,0 +1,3 @@
+pub mod AreaLaws
+pub mod BankLaws
+pub mod CallLaws

@@ -1,6 +1,0 @@
-use Rattle.std.proofs.Common.{arith}
-use Rattle.std.proofs.Math.Nat.{mul-le-mul_left}
-use Rattle.flash_bank.proofs.layout.Shape.bank_place.Goals as goal
-
-pub returns-clause-inside : goal.returns-clause-inside
-returns-clause-inside c = omega (arith, mul-le-mul_left c.args.self.block_size c.bank_block.ensures.inside)

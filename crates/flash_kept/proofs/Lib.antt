@@ -1,0 +1,15 @@
+pub mod AreaLaws
+pub mod BackLaws
+pub mod Cases
+pub mod CountLaws
+pub mod FillLaws
+pub mod HeadLaws
+pub mod HeaderLaws
+pub mod MarginLaws
+pub mod OfferLaws
+pub mod PairLaws
+pub mod PlaceLaws
+pub mod SameLaws
+pub mod SlotLaws
+pub mod SpareLaws
+pub mod ToldLaws

@@ -1,0 +1,11 @@
+pub mod Counts
+pub mod Held
+pub mod Leaving
+pub mod Lost
+pub mod Margins
+pub mod Offering
+pub mod Places
+pub mod Slots
+pub mod SpareArea
+pub mod Staged
+pub mod Told

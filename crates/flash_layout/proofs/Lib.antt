@@ -1,0 +1,5 @@
+pub mod JournalLemmas
+pub mod LaidLemmas
+pub mod PairsLemmas
+pub mod PartLemmas
+pub mod Places

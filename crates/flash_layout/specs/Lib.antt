@@ -1,0 +1,5 @@
+pub mod Journal
+pub mod Layout
+pub mod Pairs
+pub mod Shape
+pub mod Slots
