@@ -1,7 +1,7 @@
 #!/usr/bin/env python3
 """Looks which files each command opens, and how, by strace.
 
-Only `format`, `boot` and `replay` may open flash.bin, `boot` for reading alone, and `blank` makes it. Every other file of the folder is opened
+Only `format`, `boot`, `migrate` and `replay` may open flash.bin, `boot` for reading alone, and `blank` makes it. Every other file of the folder is opened
 only by the commands that the manual names, a file that is made only where a byte goes into it, and wrong words open nothing.
 
 usage: outside/opened.py            exits with 0 where no command opens more; without strace it says so and ends with 0
@@ -27,6 +27,7 @@ COMMANDS = [
     (("replay",), {"box.toml": READ, "air.ts": READ, "flash.bin": BOTH}),
     (("format", "old.bin", "spares", "1"), {"box.toml": READ, "old.bin": READ, "flash.bin": BOTH}),
     (("boot", "spares", "1"), {"flash.bin": READ, "image.bin": MADE}),
+    (("migrate", "spares", "1"), {"flash.bin": BOTH}),
     (("replay", "spares", "1"), {"box.toml": READ, "air.ts": READ, "flash.bin": BOTH}),
     (("air",), {"script.toml": READ, "air.ts": READ, "aired.ts": MADE}),
     (("audit", "258", "257"), {"air.ts": READ}),

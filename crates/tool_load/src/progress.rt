@@ -41,7 +41,6 @@ impl Progress {
 
     /// The same. It stands apart because it has a plan on its stack, whose room is cleared at each call: with the blocks that would
     /// take as long as their copies.
-    #[inline(never)]
     fn go_on(&mut self, alloc: Global, section: &[u8]) -> Result<(), NoMemory>
         requires right { IsRight section.now }
         ensures stands { OnOk result ((sections : List (List ℕ)) → StandsFor self.old sections
