@@ -167,6 +167,7 @@ all_kept g x y limits keeps same = record {
       let free = area_free area x y order (same area has) in
       let lost = area_lost area x y order (same area has) dii (held_lie area x message dii order staged.held) in
       omega (arith, free, lost);
+  group = λ area message dii has staged enough. group_kept g x y limits keeps same message dii (record { area = area; spare = has; staged = staged });
   places = λ area message dii has staged enough number b place. record {
     area = place.area;
     spare = area_after g x y place.area keeps place.spare;
@@ -184,23 +185,29 @@ offered_holds g area dii message a bytes x y has keeps leaves other n b holds =
 
 -- of what an offer leaves, torn or done
 kept_by : (g : Geometry) (area : SpareArea) (dii : DiiFields) (message : List ℕ) (x y : List ℕ) (fall least : ℕ) → HasSpareArea g x area → Keeps g x y → StagesGroup g x message dii
-    → MarginFalls area dii fall x y → (lost_places area dii x + least ≤ free_slots area x → (n : ℕ) (b : List ℕ) → IsStaged area x message n b → IsStaged area y message n b) → KeepsStaged g fall least x y
-kept_by g area dii message x y fall least has keeps stages margin staged = record {
+    → MarginFalls area dii fall x y
+    → (lost_places area dii x + least ≤ free_slots area x → HasStagedMessage area y message dii) → (lost_places area dii x + least ≤ free_slots area x → (n : ℕ) (b : List ℕ) → IsStaged area x message n b → IsStaged area y message n b) → KeepsStaged g fall least x y
+kept_by g area dii message x y fall least has keeps stages margin stays staged = record {
   margin = λ other text group spare now.
       let same = one_area g x other area spare has in
       let one = own other text group spare now in
       subst (λ (t : SpareArea). MarginFalls t group fall x y) (sym same) (subst (λ (d : DiiFields). MarginFalls area d fall x y) (sym one.1) margin);
+  group = λ other text group spare now enough.
+      let one = own other text group spare now in
+      record {
+        area = area;
+        spare = area_after g x y area keeps has;
+        staged = subst (λ (m : List ℕ). HasStagedMessage area y m group) (sym one.0)
+            (subst (λ (d : DiiFields). HasStagedMessage area y message d) (sym one.1) (stays (enough_here other text group spare now enough)));
+      };
   places = λ other text group spare now enough number b place.
-      let same = one_area g x other area spare has in
       let one = own other text group spare now in
       let there = one_area g x place.area area place.spare has in
-      let enough_here : lost_places area dii x + least ≤ free_slots area x =
-      subst (λ (d : DiiFields). lost_places area d x + least ≤ free_slots area x) one.1 (subst (λ (t : SpareArea). lost_places t group x + least ≤ free_slots t x) same enough) in
       let was : IsStaged area x message number b = subst (λ (m : List ℕ). IsStaged area x m number b) one.0 (subst (λ (t : SpareArea). IsStaged t x text number b) there place.staged) in
       record {
         area = area;
         spare = area_after g x y area keeps has;
-        staged = subst (λ (m : List ℕ). IsStaged area y m number b) (sym one.0) (staged enough_here number b was);
+        staged = subst (λ (m : List ℕ). IsStaged area y m number b) (sym one.0) (staged (enough_here other text group spare now enough) number b was);
       };
 }
   where
@@ -211,9 +218,17 @@ kept_by g area dii message x y fall least has keeps stages margin staged = recor
         let there = one_area g x stages.area area stages.spare has in
         held_one area x text message group dii (subst (λ (t : SpareArea). HasHeldMessage t x text group) same now.held) (subst (λ (t : SpareArea). HasHeldMessage t x message dii) there stages.staged.held)
 
+    -- its margin
+    enough_here : (other : SpareArea) (text : List ℕ) (group : DiiFields) → HasSpareArea g x other → HasStagedMessage other x text group
+        → lost_places other group x + least ≤ free_slots other x → lost_places area dii x + least ≤ free_slots area x
+    enough_here other text group spare now enough =
+        let same = one_area g x other area spare has in
+        let one = own other text group spare now in
+        subst (λ (d : DiiFields). lost_places area d x + least ≤ free_slots area x) one.1 (subst (λ (t : SpareArea). lost_places t group x + least ≤ free_slots t x) same enough)
+
 pub offered_kept : (g : Geometry) (area : SpareArea) (dii : DiiFields) (message : List ℕ) (a : ℕ) (bytes x y : List ℕ) → HasSpareArea g x area → Keeps g x y → StagesGroup g x message dii
     → LeavesOffered area dii message a bytes x y → KeepsStaged g 1 1 x y
-offered_kept g area dii message a bytes x y has keeps stages leaves = kept_by g area dii message x y 1 1 has keeps stages leaves.margin leaves.staged
+offered_kept g area dii message a bytes x y has keeps stages leaves = kept_by g area dii message x y 1 1 has keeps stages leaves.margin leaves.message_staged leaves.staged
 
 pub done_place : (g : Geometry) (area : SpareArea) (dii : DiiFields) (message : List ℕ) (a : ℕ) (bytes x y : List ℕ) → HasSpareArea g x area → Keeps g x y
     → Offers area dii message a bytes x y → StagesPlace g y message a bytes
@@ -221,4 +236,37 @@ done_place g area dii message a bytes x y has keeps offers = record { area = are
 
 pub done_kept : (g : Geometry) (area : SpareArea) (dii : DiiFields) (message : List ℕ) (a : ℕ) (bytes x y : List ℕ) → HasSpareArea g x area → Keeps g x y → StagesGroup g x message dii
     → Offers area dii message a bytes x y → KeepsStaged g 0 0 x y
-done_kept g area dii message a bytes x y has keeps stages offers = kept_by g area dii message x y 0 0 has keeps stages offers.margin (λ enough. offers.staged)
+done_kept g area dii message a bytes x y has keeps stages offers = kept_by g area dii message x y 0 0 has keeps stages offers.margin (λ enough. offers.message_staged) (λ enough. offers.staged)
+
+-- ---- calls one after another
+
+pub kept_joined : (g : Geometry) (fall least : ℕ) (x y z : List ℕ) → Keeps g x y → KeepsStaged g 0 0 x y → KeepsStaged g fall least y z → KeepsStaged g fall least x z
+kept_joined g fall least x y z keeps first second = record {
+  margin = λ area message dii has staged.
+      let was = first.margin area message dii has staged in
+      let is = second.margin area message dii (area_after g x y area keeps has) (between area message dii has staged) in
+      omega (arith, was, is);
+  group = λ area message dii has staged enough.
+      let was = first.margin area message dii has staged in
+      second.group area message dii (area_after g x y area keeps has) (between area message dii has staged) (omega (arith, was, enough));
+  places = λ area message dii has staged enough number b place.
+      let was = first.margin area message dii has staged in
+      let fits = staged.enough in
+      second.places area message dii (area_after g x y area keeps has) (between area message dii has staged) (omega (arith, was, enough)) number b
+      (first.places area message dii has staged (omega (arith, fits)) number b place);
+}
+  where
+    -- the message is staged in y
+    between : (area : SpareArea) (message : List ℕ) (dii : DiiFields) → HasSpareArea g x area → HasStagedMessage area x message dii → HasStagedMessage area y message dii
+    between area message dii has staged =
+        let fits = staged.enough in
+        let there = first.group area message dii has staged (omega (arith, fits)) in
+        subst (λ (t : SpareArea). HasStagedMessage t y message dii) (one_area g y there.area area there.spare (area_after g x y area keeps has)) there.staged
+
+-- what keeps all keeps so much
+pub kept_weaker : (g : Geometry) (fall least : ℕ) (x y : List ℕ) → KeepsStaged g 0 0 x y → KeepsStaged g fall least x y
+kept_weaker g fall least x y keeps = record {
+  margin = λ area message dii has staged. let was = keeps.margin area message dii has staged in omega (arith, was);
+  group = λ area message dii has staged enough. keeps.group area message dii has staged (omega (arith, enough));
+  places = λ area message dii has staged enough. keeps.places area message dii has staged (omega (arith, enough));
+}

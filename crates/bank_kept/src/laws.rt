@@ -111,3 +111,11 @@ pub fn calls_change_their_part()
     ensures resumed { (bank : Bank) (x y : List ℕ) → LeavesResumed bank x y → SameArea (area_of_bank bank) x y }
     ensures committed { (bank : Bank) (new : Record) (x y : List ℕ) → LeavesCommitted bank new x y → SameArea (area_of_bank bank) x y }
 {}
+
+/// Where calls one after another leave what boot takes, what each keeps of what is staged they keep together; a call that keeps all keeps as
+/// much as one within which the power goes.
+pub fn calls_keep_what_is_staged()
+    ensures joined { (g : Geometry) (fall least : ℕ) (x y z : List ℕ) → Keeps g x y → KeepsStaged g 0 0 x y → KeepsStaged g fall least y z
+        → KeepsStaged g fall least x z }
+    ensures weaker { (g : Geometry) (fall least : ℕ) (x y : List ℕ) → KeepsStaged g 0 0 x y → KeepsStaged g fall least x y }
+{}

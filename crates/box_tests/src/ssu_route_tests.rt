@@ -141,6 +141,14 @@ fn chosen(choice: Option<&Choice>) -> u32 {
     }
 }
 
+/// Does the text begin with the message of the choice?
+fn has_message(choice: Option<&Choice>, text: &[u8]) -> bool {
+    match choice {
+        Some(choice) => !choice.message.is_empty() && text.starts_with(choice.message.as_slice()),
+        None => false,
+    }
+}
+
 #[test]
 fn without_one_section_its_level_is_missing(rt: HostRuntime) -> Result<(), Fail> {
     let alloc = rt.alloc();
@@ -217,6 +225,13 @@ fn each_section_changes_the_choice_as_told(rt: HostRuntime) -> Result<(), Fail> 
         same(&rt, &route.hear(pid(258), &bytes, RUNNING), &expected);
         same(&rt, &chosen(route.choice()), &group);
     }
+    // The message of the DII, behind the 8 bytes of its section's head.
+    let last = dii(alloc, 2, 1, 0, &[])?;
+    same(
+        &rt,
+        &has_message(route.choice(), last.get(8..).unwrap_or(&[])),
+        &true,
+    );
     // Another PID, and another transaction in the highest bit.
     let other = dii(alloc, 0x8000_0002, 1, 0, COMPRESSED)?;
     same(
@@ -230,6 +245,7 @@ fn each_section_changes_the_choice_as_told(rt: HostRuntime) -> Result<(), Fail> 
     windows_grow();
     choices_count();
     choices_stay();
+    choices_have_messages();
     Ok(())
 }
 

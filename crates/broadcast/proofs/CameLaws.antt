@@ -1,5 +1,5 @@
 -- What a replay of the packets of a broadcast comes to.
-use Rattle.std.proofs.Common.{◌≡◌, ◌⊎◌, inl, inr, ℕ, ◌+◌, ◌-◌, ◌*◌, ◌<◌, ◌≤◌, true, List, [], ◌∷◌, ◌++◌, length, take, drop, Some, refl, sym, ap, subst, ◌∙◌, arith, append_assoc, append-nil, length-append}
+use Rattle.std.proofs.Common.{◌≡◌, ◌⊎◌, inl, inr, ℕ, ◌+◌, ◌-◌, ◌*◌, ◌<◌, ◌≤◌, Bool, true, List, [], ◌∷◌, ◌++◌, length, take, drop, Some, refl, sym, ap, subst, ◌∙◌, arith, append_assoc, append-nil, length-append}
 use Rattle.std.specs.Prelude.{reverse}
 use Rattle.std.specs.List.{All, concat}
 use Rattle.std.proofs.lemmas.List.{length-drop, length-take, take-append-drop}
@@ -19,7 +19,7 @@ use Rattle.ssu_answer.specs.declared.chosen.Chosen.{Chosen}
 use Rattle.ssu_loader.specs.Decisions.{Decision, IsOpen, Reaches, TooMany, Whole, Wrong}
 use Rattle.ssu_loader.specs.Opening.{KeepsNothing}
 use Rattle.ssu_loader.specs.Replays.{BreaksAtPacket, ComesSeen, EndsWith, HearsAtPacket, HearsToEnd, ReachesNone, ReplayLeaves, TakesAndInstalls, heard_in}
-use Rattle.ssu_loader.specs.Verdicts.{IsSeen, IsVerdict}
+use Rattle.ssu_loader.specs.Verdicts.{IsLastSeen, IsSeen, IsUndecided}
 use Rattle.ssu_answer.specs.declared.verdict.Verdict.{Verdict}
 use Rattle.ssu_answer.specs.declared.verdict.Verdict.TheVariants.{BadModule, Incomplete, Installed, Nothing, Unsettled}
 use Rattle.ssu_loader.proofs.FrontLaws.{front_reaches}
@@ -156,23 +156,23 @@ to_end b me rest Now air h =
 
 -- ---- the verdict
 
-pub came : (b : Broadcast) (me : Receiver) → KeepsNothing me → (rest : List ℕ) (g : Geometry) (former : Boot) (x y : List ℕ) (verdict : Verdict) → IsOnAir b → BootOf g x former
-    → EndsWith true me (Some (bytes_of_air b)) (Some rest) g x y verdict → Came b me g former.head x y verdict
-came b me keeps rest g former x y (Installed chosen) air boots ends =
+pub came : (keeps : Bool) (b : Broadcast) (me : Receiver) → KeepsNothing me → (rest : List ℕ) (g : Geometry) (former : Boot) (x y : List ℕ) (verdict : Verdict) → IsOnAir b → BootOf g x former
+    → EndsWith true keeps me (Some (bytes_of_air b)) (Some rest) g x y verdict → Came b me g former.head x y verdict
+came keeping b me keeps rest g former x y (Installed chosen) air boots ends =
     let i = installed b me keeps rest g former x y chosen air boots ends in
     let s = settled b me i.front.before i.front.packet i.front.behind (Whole chosen i.image) air i.front.parts i.front.within i.reached in
     record { is = (i.image, s.all); out = inr s.out; left = i }
-came b me keeps rest g former x y (Nothing level) air boots ends =
+came keeping b me keeps rest g former x y (Nothing level) air boots ends =
     let e = to_end b me rest _ air ends.0 in
     record { is = e.now.0; out = inl e.few; left = ends.1 }
-came b me keeps rest g former x y (Incomplete chosen count) air boots ends =
+came keeping b me keeps rest g former x y (Incomplete chosen count) air boots ends =
     let e = to_end b me rest _ air ends.0 in
     record { is = e.now.0; out = inl e.few; left = ends.1 }
-came b me keeps rest g former x y (BadModule id want found) air boots ends =
+came keeping b me keeps rest g former x y (BadModule id want found) air boots ends =
     let u = up_to b me rest (λ heard. Reaches me heard (Wrong id want found)) (IsOpen me) air ends.0 in
     let s = settled_at b me (IsOpen me) (Wrong id want found) air u in
     record { is = s.all; out = inr s.out; left = ends.1.0 }
-came b me keeps rest g former x y Unsettled air boots ends =
+came keeping b me keeps rest g former x y Unsettled air boots ends =
     let u = up_to b me rest _ (IsOpen me) air ends.0 in
     let s = settled b me u.front.before u.front.packet u.front.behind TooMany air u.front.parts u.front.within u.now.0 in
     record { is = s.all; out = inr s.out; left = ends.1 }
@@ -197,29 +197,30 @@ head_after b me g former taken x y Unsettled from boots left = ap (λ (t : Boot)
 
 -- ---- what is seen without the flash
 
-seen_at : (b : Broadcast) (me : Receiver) (rest : List ℕ) (verdict : Verdict) → IsOnAir b
-    → HearsAtPacket me (Some (bytes_of_air b)) (Some rest) (λ heard. IsSeen me heard (Some verdict)) (IsOpen me) → IsSeenAt b me verdict
-seen_at b me rest verdict air h =
-    let u = up_to b me rest (λ heard. IsSeen me heard (Some verdict)) (IsOpen me) air h in
-    record { front = u.front; seen = u.now; undecided = u.earlier }
+module _ (known : Type 0) (b : Broadcast) (me : Receiver) (rest : List ℕ) where
+  seen_at : (verdict : Verdict) → IsOnAir b → HearsAtPacket me (Some (bytes_of_air b)) (Some rest) (λ heard. IsSeen known me heard (Some verdict)) (IsUndecided known me)
+      → IsSeenAt known b me verdict
+  seen_at verdict air h =
+      let u = up_to b me rest (λ heard. IsSeen known me heard (Some verdict)) (IsUndecided known me) air h in
+      record { front = u.front; seen = u.now; undecided = u.earlier }
 
-pub seen_over : (b : Broadcast) (me : Receiver) (rest : List ℕ) (verdict : Verdict) → IsOnAir b → ComesSeen me (Some (bytes_of_air b)) (Some rest) verdict → IsSeenOver b me verdict
-seen_over b me rest (Nothing level) air comes = let e = to_end b me rest (λ heard. IsVerdict me heard (Nothing level)) air comes in record { few = e.few; is = e.now }
-seen_over b me rest (Incomplete chosen count) air comes =
-    let e = to_end b me rest (λ heard. IsVerdict me heard (Incomplete chosen count)) air comes in record { few = e.few; is = e.now }
-seen_over b me rest (Installed chosen) air comes = seen_at b me rest (Installed chosen) air comes
-seen_over b me rest (BadModule id want found) air comes = seen_at b me rest (BadModule id want found) air comes
-seen_over b me rest Unsettled air comes = seen_at b me rest Unsettled air comes
+  pub seen_over : (verdict : Verdict) → IsOnAir b → ComesSeen known me (Some (bytes_of_air b)) (Some rest) verdict → IsSeenOver known b me verdict
+  seen_over (Nothing level) air comes = let e = to_end b me rest (λ heard. IsLastSeen known me heard (Nothing level)) air comes in record { few = e.few; is = e.now }
+  seen_over (Incomplete chosen count) air comes =
+      let e = to_end b me rest (λ heard. IsLastSeen known me heard (Incomplete chosen count)) air comes in record { few = e.few; is = e.now }
+  seen_over (Installed chosen) air comes = seen_at (Installed chosen) air comes
+  seen_over (BadModule id want found) air comes = seen_at (BadModule id want found) air comes
+  seen_over Unsettled air comes = seen_at Unsettled air comes
 
-pub broken_at : (b : Broadcast) (me : Receiver) (rest : List ℕ) → IsOnAir b → BreaksAtPacket me (Some (bytes_of_air b)) (Some rest) → IsBrokenAt b me
-broken_at b me rest air h =
-    let u = up_to b me rest (λ heard. Unit {0}) (IsOpen me) air h in
-    record { front = u.front; undecided = u.earlier }
+  pub broken_at : IsOnAir b → BreaksAtPacket known me (Some (bytes_of_air b)) (Some rest) → IsBrokenAt known b me
+  broken_at air h =
+      let u = up_to b me rest (λ heard. Unit {0}) (IsUndecided known me) air h in
+      record { front = u.front; undecided = u.earlier }
 
 -- ---- too many packets
 
-pub record IsMore (b : Broadcast) (me : Receiver) : Type 0 where
-  pub undecided : IsOpen me (heard_over me (packets_taken b))
+pub record IsMore (known : Type 0) (b : Broadcast) (me : Receiver) : Type 0 where
+  pub undecided : IsUndecided known me (heard_over me (packets_taken b))
   pub many : most_packets < length (aired_packets b)
 
 -- the first packets are those of the bytes up to one byte behind them
@@ -246,12 +247,12 @@ first_packets most taken rest one =
 more_than : (most count bytes taken rest : ℕ) → bytes ≡ 188 * count → bytes ≡ taken + rest → taken ≡ 188 * most + 1 → most < count
 more_than most count bytes taken rest a b c = omega (arith, a, b, c)
 
-pub more : (b : Broadcast) (me : Receiver) (rest : List ℕ) → IsOnAir b → ReachesNone me (Some (bytes_of_air b)) (Some rest) IsOneMore → IsMore b me
-more b me rest air h =
+pub more : (known : Type 0) (b : Broadcast) (me : Receiver) (rest : List ℕ) → IsOnAir b → ReachesNone known me (Some (bytes_of_air b)) (Some rest) IsOneMore → IsMore known b me
+more known b me rest air h =
     let takes : bytes_of_air b ≡ h.taken ++ rest = h.takes in
     let first : packets_taken b ≡ packets h.taken = ap (take most_packets) (sym (air_packets b air) ∙ ap packets takes) ∙ first_packets most_packets h.taken rest h.bytes in
     record {
-      undecided = subst (IsOpen me) (heard_bytes me h.taken (packets_taken b) (sym first)) h.now;
+      undecided = subst (IsUndecided known me) (heard_bytes me h.taken (packets_taken b) (sym first)) h.now;
       many = more_than most_packets (length (aired_packets b)) (length (bytes_of_air b)) (length h.taken) (length rest) (bytes_long (aired_packets b) (all_long b air))
           (ap (λ (r : List ℕ). length r) takes ∙ length-append h.taken rest) h.bytes;
     }

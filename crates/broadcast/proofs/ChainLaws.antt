@@ -1,5 +1,5 @@
 -- What a broadcast does to the flash of a box, from its replay to its boot.
-use Rattle.std.proofs.Common.{◌≡◌, ◌≢◌, ◌⊎◌, ⊎_elim, inl, inr, ℕ, ◌-◌, ◌<◌, ◌≤◌, true, List, Some, Result, Ok, Err, refl, sym, ap, subst, ◌∙◌, arith}
+use Rattle.std.proofs.Common.{◌≡◌, ◌≢◌, ◌⊎◌, ⊎_elim, inl, inr, ℕ, ◌-◌, ◌<◌, ◌≤◌, true, false, List, Some, Result, Ok, Err, refl, sym, ap, subst, ◌∙◌, arith}
 use Rattle.std.specs.Prelude.{IfErr, IfOk}
 use Rattle.std.proofs.lemmas.Bool.{cases_lt}
 use Rattle.box_file.specs.declared.file.BoxFile.{BoxFile}
@@ -28,9 +28,11 @@ use Rattle.flash_dev.proofs.Moments.{joined, started, weaker}
 use Rattle.ssu_answer.specs.declared.chosen.Chosen.{Chosen}
 use Rattle.ssu_answer.specs.declared.build_fault.BuildFault.{BuildFault}
 use Rattle.ssu_answer.specs.declared.build_fault.BuildFault.TheVariants as build_fault
+use Rattle.route_tables.specs.Values.{Receiver}
 use Rattle.ssu_io.specs.Faults.{Rose}
 use Rattle.ssu_io.proofs.BytesLemmas.{Rose_since}
-use Rattle.ssu_loader.specs.Replaying.{Breaks, AsBox, IsReady, AtAnyMoment, Fails, ReplaysBox, receiver_under}
+use Rattle.ssu_loader.specs.Opening.{opening_of}
+use Rattle.ssu_loader.specs.Replaying.{AsBox, AtAnyMoment, Breaks, Fails, IsKnown, IsReady, ReplaysBox, receiver_under}
 use Rattle.ssu_loader.specs.Replays.{EndsWith, ReplayLeaves}
 use Rattle.ssu_loader.specs.declared.fault.LoadFault.{LoadFault}
 use Rattle.ssu_loader.specs.declared.fault.LoadFault.TheVariants as load_fault
@@ -68,10 +70,14 @@ pub record BootSays {F : Type 0} (f : FlashGhosts F) (mid new : F) (fault : Boot
   pub flash : fault ≡ boot_fault.Flash → Rose (f.faults mid) (f.faults new)
 
 module _ {F : Type 0} (f : FlashGhosts F) (b : Broadcast) (box_file : BoxFile) where
+  -- the box, where this record is the current one
+  abbrev box_at : F → Record → Receiver
+  box_at old head = receiver_under box_file (blocks_of f old) head (opening_of false (blocks_of f old) head (f.contents old))
+
   abbrev Leaves : F → Boot → List ℕ → Type 0
   Leaves old former left =
       KeepsBoot (blocks_of f old) (f.contents old) left
-      ⊎ ((chosen : Chosen) × IsInstalledFrom b (receiver_under box_file (blocks_of f old) former.head) (blocks_of f old) former.head (f.contents old) left chosen)
+      ⊎ ((chosen : Chosen) × IsInstalledFrom b (box_at old former.head) (blocks_of f old) former.head (f.contents old) left chosen)
 
   -- ---- before the replay
 
@@ -111,10 +117,10 @@ module _ {F : Type 0} (f : FlashGhosts F) (b : Broadcast) (box_file : BoxFile) w
 
   -- ---- the replay
 
-  replay_leaves : (old new : F) (rest : List ℕ) (result : Result Verdict LoadFault) → IsOnAir b → ReplaysBox true box_file result (held_seen (bytes_of_air b) rest) (flash_seen f old new)
+  replay_leaves : (old new : F) (rest : List ℕ) (result : Result Verdict LoadFault) → IsOnAir b → ReplaysBox true false box_file result (held_seen (bytes_of_air b) rest) (flash_seen f old new)
       → f.tells → IsSound (blocks_of f old) (f.contents old) → (former : Boot) → BootOf (blocks_of f old) (f.contents old) former → AtAnyMoment (flash_seen f old new) (Leaves old former)
   replay_leaves old new rest result air r tells sound former boots =
-      let me = receiver_under box_file (blocks_of f old) former.head in
+      let me = box_at old former.head in
       let x = f.contents old in
       let g = blocks_of f old in
       let at = r.at_any_moment tells sound former boots in
@@ -125,25 +131,25 @@ module _ {F : Type 0} (f : FlashGhosts F) (b : Broadcast) (box_file : BoxFile) w
 
   -- ---- without a verdict
 
-  too_long : (old new : F) (rest : List ℕ) → IsOnAir b → AreFewSent b → Fails box_file (held_seen (bytes_of_air b) rest) (flash_seen f old new) load_fault.TooLong
+  too_long : (old new : F) (rest : List ℕ) → IsOnAir b → AreFewSent b → Fails false box_file (held_seen (bytes_of_air b) rest) (flash_seen f old new) load_fault.TooLong
       → IsTooLong b box_file (flash_seen f old new)
   too_long old new rest air few fails =
       let is = fails.reaches in
-      let m = more b (receiver_under box_file (blocks_of f old) is.current) rest air is.fact in
+      let m = more (IsKnown false (flash_seen f old new)) b (box_at old is.current) rest air is.fact in
       inr (few, (fails.ready, (m.many, (record { current = is.current; boots = is.boots; fact = m.undecided }, fails.keeps))))
 
-  breaks_so : (old new : F) (rest : List ℕ) → IsOnAir b → Breaks box_file (held_seen (bytes_of_air b) rest) (flash_seen f old new)
-      → OnlyReads f.tells f.contents f.block_count f.block_len f.moment f.left_since old new ⊎ (IsReady (flash_seen f old new) × AsBox box_file (flash_seen f old new) (IsBrokenAt b))
+  breaks_so : (old new : F) (rest : List ℕ) → IsOnAir b → Breaks false box_file (held_seen (bytes_of_air b) rest) (flash_seen f old new)
+      → OnlyReads f.tells f.contents f.block_count f.block_len f.moment f.left_since old new ⊎ (IsReady (flash_seen f old new) × AsBox false box_file (flash_seen f old new) (IsBrokenAt (IsKnown false (flash_seen f old new)) b))
   breaks_so old new rest air breaks = elim breaks [
     | inl none ↦ inl none.1
     | inr at ↦
         let is = at.1 in
-        let fact = broken_at b (receiver_under box_file (blocks_of f old) is.current) rest air is.fact in
+        let fact = broken_at (IsKnown false (flash_seen f old new)) b (box_at old is.current) rest air is.fact in
         inr (at.0, record { current = is.current; boots = is.boots; fact = fact })
   ]
 
   fails_so : (old new : F) (rest : List ℕ) (fault : LoadFault) → IsOnAir b → AreFewSent b
-      → Fails box_file (held_seen (bytes_of_air b) rest) (flash_seen f old new) fault → IsFault b box_file (flash_seen f old new) (of_load fault)
+      → Fails false box_file (held_seen (bytes_of_air b) rest) (flash_seen f old new) fault → IsFault b box_file (flash_seen f old new) (of_load fault)
   fails_so old new rest load_fault.Geometry air few fails = (air.sent.buildable, (few, (fails.0, fails.1.1)))
   fails_so old new rest load_fault.FlashFault air few fails = (air.sent.buildable, (few, (fails.0, (fails.1.0, breaks_so old new rest air fails.1.1))))
   fails_so old new rest load_fault.Foreign air few fails = (air.sent.buildable, (few, (fails.0, (fails.1.0, fails.1.1.1))))
@@ -153,10 +159,10 @@ module _ {F : Type 0} (f : FlashGhosts F) (b : Broadcast) (box_file : BoxFile) w
   fails_so old new rest load_fault.TooLong air few fails = (air.sent.buildable, too_long old new rest air few fails)
 
   pub load_failed : (old new : F) (bytes rest : List ℕ) (fault : LoadFault) → IsOnAir b → AreFewSent b → bytes ≡ bytes_of_air b
-      → ReplaysBox true box_file (Err fault) (held_seen bytes rest) (flash_seen f old new) → Broadcasts b box_file (Err (of_load fault)) (flash_seen f old new)
+      → ReplaysBox true false box_file (Err fault) (held_seen bytes rest) (flash_seen f old new) → Broadcasts b box_file (Err (of_load fault)) (flash_seen f old new)
   load_failed old new bytes rest fault air few is replays =
-      let r : ReplaysBox true box_file (Err fault) (held_seen (bytes_of_air b) rest) (flash_seen f old new) =
-      subst (λ (l : List ℕ). ReplaysBox true box_file (Err fault) (held_seen l rest) (flash_seen f old new)) is replays in
+      let r : ReplaysBox true false box_file (Err fault) (held_seen (bytes_of_air b) rest) (flash_seen f old new) =
+      subst (λ (l : List ℕ). ReplaysBox true false box_file (Err fault) (held_seen l rest) (flash_seen f old new)) is replays in
       record {
         at_any_moment = replay_leaves old new rest (Err fault) air r;
         ok = tt;
@@ -168,35 +174,35 @@ module _ {F : Type 0} (f : FlashGhosts F) (b : Broadcast) (box_file : BoxFile) w
 
   -- the bytes that the box was given are those of the broadcast
   pub replayed : (old mid : F) (bytes rest : List ℕ) (result : Result Verdict LoadFault) → bytes ≡ bytes_of_air b
-      → ReplaysBox true box_file result (held_seen bytes rest) (flash_seen f old mid) → ReplaysBox true box_file result (held_seen (bytes_of_air b) rest) (flash_seen f old mid)
-  replayed old mid bytes rest result is replays = subst (λ (l : List ℕ). ReplaysBox true box_file result (held_seen l rest) (flash_seen f old mid)) is replays
+      → ReplaysBox true false box_file result (held_seen bytes rest) (flash_seen f old mid) → ReplaysBox true false box_file result (held_seen (bytes_of_air b) rest) (flash_seen f old mid)
+  replayed old mid bytes rest result is replays = subst (λ (l : List ℕ). ReplaysBox true false box_file result (held_seen l rest) (flash_seen f old mid)) is replays
 
   -- ---- with one
 
   module _ (old mid new : F) (rest : List ℕ) (verdict : Verdict) (air : IsOnAir b) (few : AreFewSent b)
-      (r : ReplaysBox true box_file (Ok verdict) (held_seen (bytes_of_air b) rest) (flash_seen f old mid))
+      (r : ReplaysBox true false box_file (Ok verdict) (held_seen (bytes_of_air b) rest) (flash_seen f old mid))
       (reads : OnlyReads f.tells f.contents f.block_count f.block_len f.moment f.left_since mid new) where
     held_same : f.tells → f.contents new ≡ f.contents mid
     held_same tells = reads.same tells
 
     came_to : f.tells → (former : Boot) → BootOf (blocks_of f old) (f.contents old) former
-        → Came b (receiver_under box_file (blocks_of f old) former.head) (blocks_of f old) former.head (f.contents old) (f.contents mid) verdict
+        → Came b (box_at old former.head) (blocks_of f old) former.head (f.contents old) (f.contents mid) verdict
     came_to tells former boots =
         let comes = r.ends.comes in
-        let me = receiver_under box_file (blocks_of f old) former.head in
-        let ends = subst (λ (h : Record). EndsWith true (receiver_under box_file (blocks_of f old) h) (Some (bytes_of_air b)) (Some rest) (blocks_of f old) (f.contents old) (f.contents mid) verdict)
+        let me = box_at old former.head in
+        let ends = subst (λ (h : Record). EndsWith true false (box_at old h) (Some (bytes_of_air b)) (Some rest) (blocks_of f old) (f.contents old) (f.contents mid) verdict)
         (sym (comes.boots tells former boots)) (comes.fact.1 tells) in
-        came b me refl rest (blocks_of f old) former (f.contents old) (f.contents mid) verdict air boots ends
+        came false b me refl rest (blocks_of f old) former (f.contents old) (f.contents mid) verdict air boots ends
 
     came_then : f.tells → (former : Boot) → BootOf (blocks_of f old) (f.contents old) former
-        → Came b (receiver_under box_file (blocks_of f old) former.head) (blocks_of f old) former.head (f.contents old) (f.contents new) verdict
+        → Came b (box_at old former.head) (blocks_of f old) former.head (f.contents old) (f.contents new) verdict
     came_then tells former boots =
-        subst (λ (y : List ℕ). Came b (receiver_under box_file (blocks_of f old) former.head) (blocks_of f old) former.head (f.contents old) y verdict) (sym (held_same tells)) (came_to tells former boots)
+        subst (λ (y : List ℕ). Came b (box_at old former.head) (blocks_of f old) former.head (f.contents old) y verdict) (sym (held_same tells)) (came_to tells former boots)
 
-    seen_so : AsBox box_file (flash_seen f old new) (λ me. IsSeenOver b me verdict)
+    seen_so : AsBox false box_file (flash_seen f old new) (λ me. IsSeenOver (IsKnown false (flash_seen f old new)) b me verdict)
     seen_so =
         let is = r.ends.comes in
-        record { current = is.current; boots = is.boots; fact = seen_over b (receiver_under box_file (blocks_of f old) is.current) rest verdict air is.fact.0 }
+        record { current = is.current; boots = is.boots; fact = seen_over (IsKnown false (flash_seen f old new)) b (box_at old is.current) rest verdict air is.fact.0 }
 
     pub comes_to : ComesTo b box_file (flash_seen f old new) verdict
     comes_to = record {
@@ -225,22 +231,22 @@ module _ {F : Type 0} (f : FlashGhosts F) (b : Broadcast) (box_file : BoxFile) w
     pub still_sound : f.tells → (IsSound (blocks_of f mid) (f.contents mid) → ⊥) → ⊥
     still_sound tells not_sound =
         some_boot (blocks_of f old) (f.contents old) (r.ends.ready.sound tells) (λ former boots. not_sound (
-        subst (λ (g : Geometry). IsSound g (f.contents mid)) (sym r.blocks) (elim (either_left b (receiver_under box_file (blocks_of f old) former.head) (blocks_of f old) former.head (f.contents old) (f.contents mid) verdict (came_to tells former boots).left) [
+        subst (λ (g : Geometry). IsSound g (f.contents mid)) (sym r.blocks) (elim (either_left b (box_at old former.head) (blocks_of f old) former.head (f.contents old) (f.contents mid) verdict (came_to tells former boots).left) [
           | inl keeps ↦ keeps.keeps.sound
           | inr t ↦ t.1.installs.commits.sound
         ])))
 
     planned_image : f.tells → (taken : Boot) → BootOf (blocks_of f old) (f.contents mid) taken → IsUnspoilt b → (former : Boot) → BootOf (blocks_of f old) (f.contents old) former
-        → (former ≡ taken) ⊎ IsPlannedImage b (receiver_under box_file (blocks_of f old) former.head) taken.image
+        → (former ≡ taken) ⊎ IsPlannedImage b (box_at old former.head) taken.image
     planned_image tells taken boots unspoilt former before =
-        elim (either_left b (receiver_under box_file (blocks_of f old) former.head) (blocks_of f old) former.head (f.contents old) (f.contents mid) verdict (came_to tells former before).left) [
+        elim (either_left b (box_at old former.head) (blocks_of f old) former.head (f.contents old) (f.contents mid) verdict (came_to tells former before).left) [
           | inl keeps ↦ inl (one_boot (blocks_of f old) (f.contents mid) former taken (keeps.keeps.boot former before) boots)
           | inr t ↦
               let i = t.1 in
               let same = one_boot (blocks_of f old) (f.contents mid) _ taken i.installs.commits.boot boots in
               inr (
                 t.0,
-                subst (λ (image : List ℕ). IsGroupForBox b.plan b.images (receiver_under box_file (blocks_of f old) former.head) t.0.group t.0.software image)
+                subst (λ (image : List ℕ). IsGroupForBox b.plan b.images (box_at old former.head) t.0.group t.0.software image)
                     (ap (λ (x : Boot). x.image) same) (i.planned unspoilt),
               )
         ]
@@ -258,7 +264,7 @@ module _ {F : Type 0} (f : FlashGhosts F) (b : Broadcast) (box_file : BoxFile) w
             boots = λ tells. subst (λ (y : List ℕ). BootOf (blocks_of f old) y taken) (sym (held_same tells)) (at_old tells);
             head = λ tells former before.
                 subst (IsHeadAfter former.head outcome.booted) (sym same)
-                (head_after b (receiver_under box_file (blocks_of f old) former.head) (blocks_of f old) former taken (f.contents old) (f.contents mid) verdict before (at_old tells) (came_to tells former before).left);
+                (head_after b (box_at old former.head) (blocks_of f old) former taken (f.contents old) (f.contents mid) verdict before (at_old tells) (came_to tells former before).left);
             planned = λ tells unspoilt former before. planned_image tells taken (at_old tells) unspoilt former before;
           };
           err = tt;

@@ -1,5 +1,5 @@
 -- What a whole broadcast does to a box: what it leaves in the flash, and what each answer says.
-use Rattle.std.specs.Prelude.{◌≡◌, ◌⊎◌, ℕ, ◌<◌, ◌≤◌, List, length, Result, Some, IfErr, IfOk}
+use Rattle.std.specs.Prelude.{◌≡◌, ◌⊎◌, ℕ, ◌<◌, ◌≤◌, List, length, Result, Some, false, IfErr, IfOk}
 use Rattle.box_file.specs.declared.file.BoxFile.{BoxFile}
 use Rattle.broadcast.specs.Packets.{Broadcast, IsFront, IsInstalledFrom, IsUnspoilt, aired_packets, heard_over, packets_taken, sent_packets, up_to_packet}
 use Rattle.broadcast.specs.declared.fault.ChainFault.{ChainFault}
@@ -19,10 +19,10 @@ use Rattle.ssu_answer.specs.declared.build_fault.BuildFault.{BuildFault}
 use Rattle.ssu_answer.specs.declared.build_fault.BuildFault.TheVariants as build_fault
 use Rattle.ssu_answer.specs.declared.chosen.Chosen.{Chosen}
 use Rattle.ssu_io.specs.Faults.{Rose}
-use Rattle.ssu_loader.specs.Decisions.{Decision, IsOpen, Reaches}
-use Rattle.ssu_loader.specs.Replaying.{AsBox, AtAnyMoment, IsReady, receiver_at}
+use Rattle.ssu_loader.specs.Decisions.{Decision, Reaches}
+use Rattle.ssu_loader.specs.Replaying.{AsBox, AtAnyMoment, IsKnown, IsReady, receiver_at}
 use Rattle.ssu_loader.specs.Replays.{record_after}
-use Rattle.ssu_loader.specs.Verdicts.{IsSeen, IsVerdict}
+use Rattle.ssu_loader.specs.Verdicts.{IsLastSeen, IsSeen, IsUndecided, IsVerdict}
 use Rattle.ssu_loader.specs.declared.fault.LoadFault.{LoadFault}
 use Rattle.ssu_loader.specs.declared.fault.LoadFault.TheVariants as load_fault
 use Rattle.ssu_answer.specs.declared.verdict.Verdict.{Verdict}
@@ -62,31 +62,32 @@ pub record Came (b : Broadcast) (me : Receiver) (g : Geometry) (former : Record)
   pub left : IsLeft b me g former x y verdict
 
 -- All packets were heard, and this is the verdict of them.
-pub record IsSeenToEnd (b : Broadcast) (me : Receiver) (verdict : Verdict) : Type 0 where
+pub record IsSeenToEnd (known : Type 0) (b : Broadcast) (me : Receiver) (verdict : Verdict) : Type 0 where
   pub few : length (aired_packets b) ≤ most_packets
-  pub is : IsVerdict me (heard_over me (aired_packets b)) verdict
+  pub is : IsLastSeen known me (heard_over me (aired_packets b)) verdict
 
 -- The verdict came with one of the packets that a box takes, whether or not the flash tells what it holds.
-pub record IsSeenAt (b : Broadcast) (me : Receiver) (verdict : Verdict) : Type 0 where
+pub record IsSeenAt (known : Type 0) (b : Broadcast) (me : Receiver) (verdict : Verdict) : Type 0 where
   pub front : IsFront b
-  pub seen : IsSeen me (heard_over me (up_to_packet front)) (Some verdict)
-  pub undecided : IsOpen me (heard_over me front.before)
+  pub seen : IsSeen known me (heard_over me (up_to_packet front)) (Some verdict)
+  pub undecided : IsUndecided known me (heard_over me front.before)
 
--- What is known of the verdict whether or not the flash tells what it holds: which places were filled, and not with which bytes.
-abbrev pub IsSeenOver : Broadcast → Receiver → Verdict → Type 0
-IsSeenOver b me (Nothing level) = IsSeenToEnd b me (Nothing level)
-IsSeenOver b me (Incomplete chosen count) = IsSeenToEnd b me (Incomplete chosen count)
-IsSeenOver b me verdict = IsSeenAt b me verdict
+-- What is known of the verdict whether or not the flash tells what it holds: on which group it is, and not with which bytes; and where it is
+-- known what the flash kept, which places were kept or filled.
+abbrev pub IsSeenOver : Type 0 → Broadcast → Receiver → Verdict → Type 0
+IsSeenOver known b me (Nothing level) = IsSeenToEnd known b me (Nothing level)
+IsSeenOver known b me (Incomplete chosen count) = IsSeenToEnd known b me (Incomplete chosen count)
+IsSeenOver known b me verdict = IsSeenAt known b me verdict
 
 -- A replay of the packets came to this verdict for the box of this file.
 pub record ComesTo (b : Broadcast) (box_file : BoxFile) (flash : FlashSeen) (verdict : Verdict) : Type 0 where
   pub built : IsBuildable b.plan b.images
   pub few : AreFewSent b
   pub ready : IsReady flash
-  pub seen : AsBox box_file flash (λ me. IsSeenOver b me verdict)
+  pub seen : AsBox false box_file flash (λ me. IsSeenOver (IsKnown false flash) b me verdict)
   -- and where the flash tells what it holds:
   pub came : flash.tells → (former : Booted) → BootOf flash.blocks flash.contents former
-      → Came b (receiver_at box_file flash former) flash.blocks former.head flash.contents flash.contents_after verdict
+      → Came b (receiver_at false box_file flash former) flash.blocks former.head flash.contents flash.contents_after verdict
 
 -- ---- the answers
 
@@ -104,27 +105,27 @@ pub record Concludes (b : Broadcast) (box_file : BoxFile) (flash : FlashSeen) (o
       → IsHeadAfter former.head outcome.booted outcome.verdict
   pub planned : flash.tells → IsUnspoilt b → (former : Booted) → BootOf flash.blocks flash.contents former
       → (former ≡ record { head = outcome.booted; image = outcome.image.items })
-      ⊎ IsPlannedImage b (receiver_at box_file flash former) outcome.image.items
+      ⊎ IsPlannedImage b (receiver_at false box_file flash former) outcome.image.items
 
 -- More packets are sent than a run takes, or more are passed on, and the first that a run takes decide nothing.
 abbrev pub IsTooLong : Broadcast → BoxFile → FlashSeen → Type 0
 IsTooLong b box_file flash =
     (most_packets < length (sent_packets b) × flash.same)
     ⊎ (AreFewSent b × (IsReady flash × (most_packets < length (aired_packets b)
-    × (AsBox box_file flash (λ me. IsOpen me (heard_over me (packets_taken b)))
+    × (AsBox false box_file flash (λ me. IsUndecided (IsKnown false flash) me (heard_over me (packets_taken b)))
     × (flash.tells → KeepsBoot flash.blocks flash.contents flash.contents_after)))))
 
 -- The flash failed at a packet before which nothing was decided.
-pub record IsBrokenAt (b : Broadcast) (me : Receiver) : Type 0 where
+pub record IsBrokenAt (known : Type 0) (b : Broadcast) (me : Receiver) : Type 0 where
   pub front : IsFront b
-  pub undecided : IsOpen me (heard_over me front.before)
+  pub undecided : IsUndecided known me (heard_over me front.before)
 
 -- why no verdict came
 abbrev pub IsLoadFault : Broadcast → BoxFile → FlashSeen → LoadFault → Type 0
 IsLoadFault b box_file flash load_fault.Geometry = AreFewSent b × (¬ IsInLimits flash.blocks × flash.only_reads)
 IsLoadFault b box_file flash load_fault.FlashFault =
     AreFewSent b × (IsInLimits flash.blocks × (Rose flash.faults flash.faults_after
-    × (flash.only_reads ⊎ (IsReady flash × AsBox box_file flash (IsBrokenAt b)))))
+    × (flash.only_reads ⊎ (IsReady flash × AsBox false box_file flash (IsBrokenAt (IsKnown false flash) b)))))
 IsLoadFault b box_file flash load_fault.Foreign =
     AreFewSent b × (IsInLimits flash.blocks × ((flash.tells → ¬ IsSound flash.blocks flash.contents) × flash.only_reads))
 IsLoadFault b box_file flash load_fault.Worn =
@@ -161,7 +162,7 @@ pub record Broadcasts (b : Broadcast) (box_file : BoxFile) (result : Result Outc
   -- Of sound contents boot takes, whenever the power goes, what it took, or a group that the packets carry whole for the box.
   pub at_any_moment : flash.tells → IsSound flash.blocks flash.contents → (former : Booted) → BootOf flash.blocks flash.contents former
       → AtAnyMoment flash (λ left. KeepsBoot flash.blocks flash.contents left
-      ⊎ ((chosen : Chosen) × IsInstalledFrom b (receiver_at box_file flash former) flash.blocks former.head flash.contents left chosen))
+      ⊎ ((chosen : Chosen) × IsInstalledFrom b (receiver_at false box_file flash former) flash.blocks former.head flash.contents left chosen))
   -- What each answer says. There is no other one.
   pub ok : IfOk result (Concludes b box_file flash)
   pub err : IfErr result (IsFault b box_file flash)

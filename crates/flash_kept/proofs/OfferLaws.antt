@@ -15,7 +15,7 @@ use Rattle.flash_kept.specs.Offering.{HoldsNoOther, IsOffered, LeavesOffered, Of
 use Rattle.flash_kept.specs.Places.{place_of}
 use Rattle.flash_kept.specs.Slots.{free_slots, is_free, is_marked, is_slot_of, is_slotted}
 use Rattle.flash_kept.specs.SpareArea.{SpareArea, mark_place, slot_bytes, slot_place}
-use Rattle.flash_kept.specs.Staged.{IsStaged}
+use Rattle.flash_kept.specs.Staged.{HasStagedMessage, IsStaged}
 use Rattle.flash_kept.proofs.Cases.{some_one, true_false}
 use Rattle.flash_kept.proofs.CountLaws.{and_both, none_of, some_of}
 use Rattle.flash_kept.proofs.FillLaws as fill
@@ -62,10 +62,13 @@ module _ (area : SpareArea) (dii : DiiFields) (message : List ℕ) (p : Place) (
 
   -- what is left once x was changed in the range and the mark of the place alone
   module _ (y : List ℕ) (ch : ChangesPlace area p.number p x y) where
+    group_still : lost_places area dii y ≤ free_slots area y → HasStagedMessage area y message dii
+    group_still enough = fill.stages_still area dii is.lie p.number p is.is_place x y ch message is.staged is.unslotted enough
+
     staged_still : lost_places area dii y ≤ free_slots area y → (n : ℕ) (b : List ℕ) → IsStaged area x message n b → IsStaged area y message n b
     staged_still enough n b has = record {
       dii = dii;
-      staged = fill.stages_still area dii is.lie p.number p is.is_place x y ch message is.staged is.unslotted enough;
+      staged = group_still enough;
       held = fill.holds_still area dii is.lie p.number p is.is_place x y ch message n b is.staged.held
           (λ same. not_held b (subst (λ (k : ℕ). IsHeld area x message k b) same has.held)) has.held;
     }
@@ -84,7 +87,12 @@ module _ (area : SpareArea) (dii : DiiFields) (message : List ℕ) (p : Place) (
     left_any : (is_marked area y p.number ≡ true → part y (area.bank + p.at) p.len ≡ bytes) → LeavesOffered area dii message p.number bytes x y
     left_any stands =
         let margin = fill.margin_one area dii is.lie p.number p is.is_place x y ch in
-        record { margin = margin; staged = λ has. staged_still (omega (arith, margin, has)); held = held_no_other stands }
+        record {
+          margin = margin;
+          message_staged = λ has. group_still (omega (arith, margin, has));
+          staged = λ has. staged_still (omega (arith, margin, has));
+          held = held_no_other stands;
+        }
 
   -- within `fill`
   pub left_filling : (y : List ℕ) → Changes (area.bank + p.at) (length bytes) (IsTornProgram bytes) x y → LeavesOffered area dii message p.number bytes x y
@@ -137,10 +145,13 @@ module _ (area : SpareArea) (dii : DiiFields) (message : List ℕ) (p : Place) (
   -- ---- a place that is lost
 
   module _ (s : ℕ) (ls : s < 16) (was_free : is_free area x s ≡ true) (was_lost : is_lost area x p.number (Some p) ≡ true) (y : List ℕ) (lv : ChangesSlot area s p bytes x y) where
+    group_spared : lost_places area dii y ≤ free_slots area y → HasStagedMessage area y message dii
+    group_spared enough = spare.stages_still area dii is.lie p.number p is.is_place s ls bytes is.long x y lv was_free is.fits message is.staged is.unslotted is.unmarked enough
+
     spared_still : lost_places area dii y ≤ free_slots area y → (n : ℕ) (b : List ℕ) → IsStaged area x message n b → IsStaged area y message n b
     spared_still enough n b has = record {
       dii = dii;
-      staged = spare.stages_still area dii is.lie p.number p is.is_place s ls bytes is.long x y lv was_free is.fits message is.staged is.unslotted is.unmarked enough;
+      staged = group_spared enough;
       held = spare.holds_still area dii is.lie p.number p is.is_place s ls bytes is.long x y lv was_free is.fits message n b is.staged.held has.held;
     }
 
@@ -159,7 +170,12 @@ module _ (area : SpareArea) (dii : DiiFields) (message : List ℕ) (p : Place) (
     pub left_sparing : LeavesOffered area dii message p.number bytes x y
     left_sparing =
         let margin = spare.margin_one area dii is.lie p.number p is.is_place s ls bytes is.long x y lv was_free is.fits was_lost in
-        record { margin = margin; staged = λ has. spared_still (omega (arith, margin, has)); held = spared_no_other }
+        record {
+          margin = margin;
+          message_staged = λ has. group_spared (omega (arith, margin, has));
+          staged = λ has. spared_still (omega (arith, margin, has));
+          held = spared_no_other;
+        }
 
     -- and at its Ok
     pub done_sparing : ((k : ℕ) → k < 16 → get_or y (slot_place area s + k) 0 ≡ get_or (slot_written p.at p.len) k 0) → Offers area dii message p.number bytes x y

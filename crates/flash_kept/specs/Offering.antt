@@ -29,10 +29,11 @@ pub record IsOffered (area : SpareArea) (dii : DiiFields) (message : List ℕ) (
   pub unslotted : is_slotted area x p ≡ false
   pub fits : area.journal + area.journal_len ≤ length x
 
--- What the offer of a place may leave, torn or done: the margin falls by one at most; each staged place stays where the margin was at
--- least 1; and what is held was held, or is the place offered.
+-- What the offer of a place may leave, torn or done: the margin falls by one at most; message and each staged place stay where the margin
+-- was at least 1; and what is held was held, or is the place offered.
 pub record LeavesOffered (area : SpareArea) (dii : DiiFields) (message : List ℕ) (a : ℕ) (bytes x y : List ℕ) : Type 0 where
   pub margin : MarginFalls area dii 1 x y
+  pub message_staged : HasMargin area dii x → HasStagedMessage area y message dii
   pub staged : HasMargin area dii x → (n : ℕ) (b : List ℕ) → IsStaged area x message n b → IsStaged area y message n b
   pub held : HoldsNoOther area message a bytes x y
 

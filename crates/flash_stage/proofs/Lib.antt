@@ -1,4 +1,5 @@
 pub mod InBankLemmas
+pub mod KeptLaws
 pub mod LeavingLaws
 pub mod RamLemmas
 pub mod TextLaws

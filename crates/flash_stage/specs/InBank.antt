@@ -1,6 +1,7 @@
 -- What is seen of a stage whose places stand in the spare bank.
 use Rattle.std.specs.Prelude.{◌≡◌, ℕ, ◌+◌, ◌≤◌, Bool, true, false, List, [], Option, None, Some}
 use Rattle.std.proofs.Common.{ap}
+use Rattle.std.proofs.lemmas.Bool.{false≢true}
 use Rattle.flash_dev.specs.Changes.{IsBlank}
 use Rattle.flash_layout.specs.Layout.{journal_len}
 use Rattle.flash_bank.specs.Bank.{current_of, geometry_of, is_begun, len_of, spare_bank, spare_journal}
@@ -10,6 +11,7 @@ use Rattle.ssu_group.specs.Place.{place_at}
 use Rattle.ssu_group.specs.Plan.{IsPlan}
 use Rattle.ssu_group.specs.declared.places.Place.{Place}
 use Rattle.flash_layout.specs.Pairs.{part}
+use Rattle.flash_stage.specs.Keeping.{IsKeptIn}
 use Rattle.flash_stage.specs.Outline.{Outline, place_of}
 use Rattle.flash_stage.specs.declared.bank_stage.BankStage.{BankStage}
 
@@ -47,7 +49,12 @@ pub record LeavesBlank (s : BankStage) (bank : Bank) (contents : List ℕ) : Typ
   pub journal : (current_of bank).layout ≡ 2 → IsBlank contents (spare_journal bank) (journal_len (geometry_of bank))
 
 -- each place stands in its own range
-pub stands_in_bank : true ≡ true → (s : BankStage) (bank : Bank) (contents : List ℕ) (number : ℕ) (p : Place) → place_of (outline_in_bank s) number ≡ Some p
+pub stands_in_bank : true ≡ true → (s : BankStage) (bank : Bank) (contents : List ℕ) (number : ℕ) (p : Place)
+    → (false ≡ true → IsKeptIn bank (outline_in_bank s).places → ⊥) → place_of (outline_in_bank s) number ≡ Some p
     → bytes_in_bank s bank contents number ≡ part contents (spare_bank bank + p.at) p.len
 unfolding bytes_in_bank
-stands_in_bank is s bank contents number p at = ap (bytes_from (spare_bank bank) contents) at
+stands_in_bank is s bank contents number p not_kept at = ap (bytes_from (spare_bank bank) contents) at
+
+-- a stage in the bank keeps nothing of what was staged before it began
+pub keeps_nothing : {A : Type 0} → false ≡ true → A
+keeps_nothing is = absurd (false≢true is)

@@ -1,4 +1,5 @@
 pub mod InBank
+pub mod Keeping
 pub mod Leaving
 pub mod Outline
 pub mod Ram

@@ -1,6 +1,6 @@
 //! A stage whose places go straight into the spare bank.
 
-ghost use Rattle.std.specs.Prelude.{◌≡◌, ◌≤◌, ◌<◌, min, true, vec_capacity};
+ghost use Rattle.std.specs.Prelude.{[], ◌≡◌, ◌≤◌, ◌<◌, false, min, true, vec_capacity};
 
 use crate::modules::{MOST_MODULES, replace};
 use crate::read_back::crc_of_range;
@@ -29,13 +29,15 @@ pub struct BankStage {
 }
 
 impl Stage for BankStage {
-    ghost use Rattle.flash_stage.specs.InBank.{IsBegun, LeavesBlank, bytes_in_bank, has_in_bank, most_in_bank, outline_in_bank, stands_in_bank};
+    ghost use Rattle.flash_stage.specs.InBank.{IsBegun, LeavesBlank, bytes_in_bank, has_in_bank, keeps_nothing, most_in_bank, outline_in_bank, stands_in_bank};
 
     ghost most = { most_in_bank };
 
     ghost plan_of = { outline_in_bank };
 
     ghost has = { has_in_bank };
+
+    ghost message_of = { λ stage. [] };
 
     ghost bytes_at = { bytes_in_bank };
 
@@ -46,6 +48,10 @@ impl Stage for BankStage {
     ghost IN_BANK = { true };
 
     const IN_BANK: bool = true;
+
+    ghost KEEPS = { false };
+
+    const KEEPS: bool = false;
 
     ghost in_bank = { stands_in_bank };
 
@@ -66,6 +72,7 @@ impl Stage for BankStage {
         &mut self,
         bank: &mut Bank,
         flash: &mut F,
+        _message: &[u8],
         plan: &GroupPlan,
     ) -> Result<(), FlashFault> {
         bank.begin(flash)?;
@@ -113,4 +120,13 @@ impl Stage for BankStage {
     ) -> Result<(), FlashFault> {
         bank.commit(flash, self.total, software, group)
     }
+
+    fn forget<F: Flash>(&mut self, _bank: &mut Bank, _flash: &mut F) -> Result<(), FlashFault> {
+        self.map.unmark_all();
+        Ok(())
+    }
+
+    ghost keeps = { keeps_nothing };
+
+    ghost keeps_none = { keeps_nothing };
 }

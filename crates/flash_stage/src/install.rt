@@ -1,6 +1,7 @@
 //! An image that is whole goes into the spare bank, and its record behind it.
 
 ghost use Rattle.std.specs.Prelude.{◌≡◌, ◌-◌, ◌<◌, ◌≤◌, OnErr, OnOk, false, length, true};
+ghost use Rattle.bank_kept.specs.Leaving.{HoldsNoMore};
 ghost use Rattle.flash_dev.specs.Moments.{LeavesOnly};
 ghost use Rattle.flash_bank.specs.Bank.{IsLent, block_of, current_of, geometry_of, is_begun, is_spent, len_of};
 ghost use Rattle.flash_bank.specs.Leaving.{Installs};
@@ -32,6 +33,9 @@ pub(crate) fn install<F: Flash>(
         image.now (F.contents flash.old) (F.contents flash.new) }
     ensures left { F.tells → LeavesOnly F.moment F.left_since flash.old flash.new
         (FinishLeaves (geometry_of bank.old) (next_record (current_of bank.old) (length image.now) software group) image.now (F.contents flash.old)) }
+    ensures no_more { F.tells → HoldsNoMore (geometry_of bank.old) (F.contents flash.old) (F.contents flash.new) }
+    ensures no_more_left { F.tells → LeavesOnly F.moment F.left_since flash.old flash.new
+        (HoldsNoMore (geometry_of bank.old) (F.contents flash.old)) }
     ensures begun { OnOk result (is_begun bank.new ≡ false) }
     ensures spent { OnErr result (is_spent bank.new ≡ true) }
     ensures same_bank { OnErr result (SameBank bank.old bank.new) }

@@ -1,6 +1,6 @@
 //! A stage that keeps the group in memory until it is whole.
 
-ghost use Rattle.std.specs.Prelude.{◌≡◌, ◌≤◌, ◌<◌, false, length, vec_capacity};
+ghost use Rattle.std.specs.Prelude.{[], ◌≡◌, ◌≤◌, ◌<◌, false, length, vec_capacity};
 ghost use Rattle.group_image.specs.Image.{HasRoom};
 ghost use Rattle.ssu_group.specs.declared.group_plan.GroupPlan.{GroupPlan};
 
@@ -36,6 +36,8 @@ impl Stage for RamStage {
 
     ghost has = { has_in };
 
+    ghost message_of = { λ stage. [] };
+
     ghost bytes_at = { bytes_in };
 
     ghost ready = { IsStarted };
@@ -45,6 +47,10 @@ impl Stage for RamStage {
     ghost IN_BANK = { false };
 
     const IN_BANK: bool = false;
+
+    ghost KEEPS = { false };
+
+    const KEEPS: bool = false;
 
     ghost in_bank = { not_in_bank };
 
@@ -64,6 +70,7 @@ impl Stage for RamStage {
         &mut self,
         _bank: &mut Bank,
         _flash: &mut F,
+        _message: &[u8],
         plan: &GroupPlan,
     ) -> Result<(), FlashFault> {
         self.block_size = plan.block_size;
@@ -105,4 +112,13 @@ impl Stage for RamStage {
     ) -> Result<(), FlashFault> {
         install(bank, flash, self.image.bytes(), software, group)
     }
+
+    fn forget<F: Flash>(&mut self, _bank: &mut Bank, _flash: &mut F) -> Result<(), FlashFault> {
+        self.image.forget();
+        Ok(())
+    }
+
+    ghost keeps = { not_in_bank };
+
+    ghost keeps_none = { not_in_bank };
 }

@@ -1,5 +1,6 @@
 //! Format, boot and install over a flash in memory, also where the power goes, and what is refused.
 
+use crate::check::{same, same_at};
 use flash_bank::{Bank, BankFault, BootFault, FlashFault, FormatFault, Record, boot, format};
 use flash_dev::{Flash, MemFlash, Tear};
 use ssu_compat::SwId;
@@ -104,19 +105,20 @@ fn booted(alloc: Global, held: &[u8]) -> Result<(Record, Vec<u8>), Fail> {
 fn format_writes_the_stated_record(rt: HostRuntime) -> Result<(), Fail> {
     let mut flash = MemFlash::blank(rt.alloc(), 6, 4096, 64)?;
     let head = format(&mut flash, b"hello", NEW)?;
-    assert_eq!(rt;
-        (head.number, head.bank, head.length, head.group),
-        (1, 0, 5, 0)
+    same(
+        &rt,
+        &(head.number, head.bank, head.length, head.group),
+        &(1, 0, 5, 0),
     );
-    let front = flash.contents().get(..16).ok_or("16 bytes")?;
+    let front = flash.contents().get(..16).expect(&rt, "16 bytes");
     let stated = [
         0x53, 0xAC, 0x53, 0xAC, 0x55, 0xAA, 0x31, 0xCE, 0x00, 0xFF, 0x00, 0xFF, 0x00, 0xFF, 0x01,
         0xFE,
     ];
-    assert_eq!(rt; front, stated.as_slice());
+    same(&rt, &front, &stated.as_slice());
     let mut sink = MemSink::new(rt.alloc(), Vec::new(rt.alloc()));
-    assert_eq!(rt; boot(&mut flash, &mut sink)?, head);
-    assert_eq!(rt; sink.bytes(), b"hello".as_slice());
+    same(&rt, &boot(&mut flash, &mut sink)?, &head);
+    same(&rt, &sink.bytes(), &b"hello".as_slice());
     Ok(())
 }
 
@@ -124,13 +126,13 @@ fn format_writes_the_stated_record(rt: HostRuntime) -> Result<(), Fail> {
 fn boot_takes_the_greater_number_wherever_it_stands(rt: HostRuntime) -> Result<(), Fail> {
     let held = contents(rt.alloc(), Some(record(4, 0)), Some(record(9, 1)))?;
     let (head, image) = booted(rt.alloc(), &held)?;
-    assert_eq!(rt; head, record(9, 1));
-    assert_eq!(rt; image.as_slice(), [4, 5, 6].as_slice());
+    same(&rt, &head, &record(9, 1));
+    same(&rt, &image.as_slice(), &[4, 5, 6].as_slice());
 
     let held = contents(rt.alloc(), Some(record(9, 0)), Some(record(4, 1)))?;
     let (head, image) = booted(rt.alloc(), &held)?;
-    assert_eq!(rt; head, record(9, 0));
-    assert_eq!(rt; image.as_slice(), [1, 2, 3].as_slice());
+    same(&rt, &head, &record(9, 0));
+    same(&rt, &image.as_slice(), &[1, 2, 3].as_slice());
     Ok(())
 }
 
@@ -141,24 +143,25 @@ fn an_image_is_installed_over_the_spare_bank(rt: HostRuntime) -> Result<(), Fail
     let image = [9u8; 300];
     install(&mut flash, &image)?;
     let (head, taken) = booted(rt.alloc(), flash.contents())?;
-    assert_eq!(rt;
-        (
+    same(
+        &rt,
+        &(
             head.number,
             head.bank,
             head.length,
             head.software,
-            head.group
+            head.group,
         ),
-        (5, 1, 300, NEW, 7)
+        &(5, 1, 300, NEW, 7),
     );
-    assert_eq!(rt; taken.as_slice(), image.as_slice());
+    same(&rt, &taken.as_slice(), &image.as_slice());
 
     let mut bank = Bank::open(&mut flash)?;
-    assert_eq!(rt; bank.current(), head);
+    same(&rt, &bank.current(), &head);
     if bank.bank_len() == 512 {
         let mut buf = [0u8; 4];
         bank.peek(&mut flash, 0, &mut buf)?;
-        assert_eq!(rt; buf.as_slice(), [1, 2, 3, 255].as_slice());
+        same(&rt, &buf.as_slice(), &[1, 2, 3, 255].as_slice());
     }
     Ok(())
 }
@@ -189,17 +192,21 @@ fn a_stop_leaves_the_former_image_or_the_whole_new_one(rt: HostRuntime) -> Resul
             let (head, taken) = booted(rt.alloc(), flash.contents())?;
             // The record's last byte is 255, so with 63 of its bytes it is whole.
             let is_whole = call == CALLS && (n == 63 || n == 64);
-            assert_eq!(rt;
-                head.number,
-                if is_whole { 5 } else { 4 },
-                "call {call} {tear:?}"
+            same(
+                &rt,
+                &(call, tear, head.number),
+                &(call, tear, if is_whole { 5 } else { 4 }),
             );
             let expected = if is_whole {
                 image.as_slice()
             } else {
                 [1, 2, 3].as_slice()
             };
-            assert_eq!(rt; taken.as_slice(), expected, "call {call} {tear:?}");
+            same(
+                &rt,
+                &(call, tear, taken.as_slice()),
+                &(call, tear, expected),
+            );
         }
     }
     Ok(())
@@ -233,10 +240,10 @@ fn blocks_are_erased_in_ascending_order_and_the_record_comes_last(
         let mut flash = flash_with(rt.alloc(), &held)?;
         flash.stop_at(call, Tear::Front(0));
         assert!(rt; install(&mut flash, &[9u8; 300]).is_err(), "call {call}");
-        assert_eq!(rt;
-            firsts(flash.contents()),
-            DONE[call as usize - 1],
-            "call {call}"
+        same(
+            &rt,
+            &(call, firsts(flash.contents())),
+            &(call, DONE[call as usize - 1]),
         );
     }
     Ok(())
@@ -256,43 +263,48 @@ fn opens(alloc: Global, held: &[u8]) -> Result<Option<BankFault>, Fail> {
 fn bad_contents_are_refused_and_left_as_they_were(rt: HostRuntime) -> Result<(), Fail> {
     let alloc = rt.alloc();
     let blank = contents(alloc, None, None)?;
-    assert_eq!(rt;
-        opens(alloc, &blank)?,
-        Some(BankFault::Foreign),
-        "no record"
+    same_at(
+        &rt,
+        "no record",
+        &opens(alloc, &blank)?,
+        &Some(BankFault::Foreign),
     );
 
     let same = contents(alloc, Some(record(4, 0)), Some(record(4, 1)))?;
-    assert_eq!(rt;
-        opens(alloc, &same)?,
-        Some(BankFault::Foreign),
-        "the same number twice"
+    same_at(
+        &rt,
+        "the same number twice",
+        &opens(alloc, &same)?,
+        &Some(BankFault::Foreign),
     );
 
     let swapped = contents(alloc, Some(record(4, 1)), None)?;
-    assert_eq!(rt;
-        opens(alloc, &swapped)?,
-        Some(BankFault::Foreign),
-        "the bank of the other block"
+    same_at(
+        &rt,
+        "the bank of the other block",
+        &opens(alloc, &swapped)?,
+        &Some(BankFault::Foreign),
     );
 
     let worn = contents(alloc, Some(record(4_294_967_295, 0)), None)?;
-    assert_eq!(rt;
-        opens(alloc, &worn)?,
-        Some(BankFault::Worn),
-        "the greatest number"
+    same_at(
+        &rt,
+        "the greatest number",
+        &opens(alloc, &worn)?,
+        &Some(BankFault::Worn),
     );
 
     let mut most = record(4, 0);
     most.length = 512;
     let full = contents(alloc, Some(most), None)?;
-    assert_eq!(rt; opens(alloc, &full)?, None, "a full bank");
+    same_at(&rt, "a full bank", &opens(alloc, &full)?, &None);
     most.length = 513;
     let long = contents(alloc, Some(most), None)?;
-    assert_eq!(rt;
-        opens(alloc, &long)?,
-        Some(BankFault::Foreign),
-        "one byte past the bank"
+    same_at(
+        &rt,
+        "one byte past the bank",
+        &opens(alloc, &long)?,
+        &Some(BankFault::Foreign),
     );
 
     // The pair 47 B8 is whole, 57 B8 sums to 271 and 47 A8 to 239.
@@ -300,13 +312,19 @@ fn bad_contents_are_refused_and_left_as_they_were(rt: HostRuntime) -> Result<(),
     let mut torn = sound.clone()?;
     put(&mut torn, 256 + 14, &[0x57, 0xB8]);
     let (head, _) = booted(alloc, &torn)?;
-    assert_eq!(rt; head.number, 3, "a torn pair makes its record invalid");
+    same_at(
+        &rt,
+        "a torn pair makes its record invalid",
+        &head.number,
+        &3,
+    );
     let mut below = sound.clone()?;
     put(&mut below, 256 + 14, &[0x47, 0xA8]);
-    assert_eq!(rt;
-        opens(alloc, &below)?,
-        Some(BankFault::Foreign),
-        "a pair below 255"
+    same_at(
+        &rt,
+        "a pair below 255",
+        &opens(alloc, &below)?,
+        &Some(BankFault::Foreign),
     );
     Ok(())
 }
@@ -315,40 +333,46 @@ fn bad_contents_are_refused_and_left_as_they_were(rt: HostRuntime) -> Result<(),
 fn a_wrong_geometry_is_refused(rt: HostRuntime) -> Result<(), Fail> {
     let alloc = rt.alloc();
     let mut small = MemFlash::blank(alloc, 3, 256, 0)?;
-    assert_eq!(rt;
-        Bank::open(&mut small).err(),
-        Some(BankFault::Geometry),
-        "3 blocks"
+    same_at(
+        &rt,
+        "3 blocks",
+        &Bank::open(&mut small).err(),
+        &Some(BankFault::Geometry),
     );
-    assert_eq!(rt;
-        format(&mut small, &[], OLD),
-        Err(FormatFault::Geometry),
-        "3 blocks"
+    same_at(
+        &rt,
+        "3 blocks",
+        &format(&mut small, &[], OLD),
+        &Err(FormatFault::Geometry),
     );
     let mut large = MemFlash::blank(alloc, 65_537, 256, 0)?;
-    assert_eq!(rt;
-        Bank::open(&mut large).err(),
-        Some(BankFault::Geometry),
-        "65,537 blocks"
+    same_at(
+        &rt,
+        "65,537 blocks",
+        &Bank::open(&mut large).err(),
+        &Some(BankFault::Geometry),
     );
     let mut odd = MemFlash::blank(alloc, 4, 300, 0)?;
     let mut sink = MemSink::new(alloc, Vec::new(alloc));
-    assert_eq!(rt;
-        boot(&mut odd, &mut sink),
-        Err(BootFault::Geometry),
-        "blocks of 300 bytes"
+    same_at(
+        &rt,
+        "blocks of 300 bytes",
+        &boot(&mut odd, &mut sink),
+        &Err(BootFault::Geometry),
     );
 
     let mut least = MemFlash::blank(alloc, 4, 4096, 0)?;
-    assert_eq!(rt;
-        boot(&mut least, &mut sink),
-        Err(BootFault::Foreign),
-        "nothing is formatted"
+    same_at(
+        &rt,
+        "nothing is formatted",
+        &boot(&mut least, &mut sink),
+        &Err(BootFault::Foreign),
     );
-    assert_eq!(rt;
-        format(&mut least, &[0; 4097], OLD),
-        Err(FormatFault::NoFit),
-        "one byte too long"
+    same_at(
+        &rt,
+        "one byte too long",
+        &format(&mut least, &[0; 4097], OLD),
+        &Err(FormatFault::NoFit),
     );
     Ok(())
 }

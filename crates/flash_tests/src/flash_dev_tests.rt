@@ -1,5 +1,6 @@
 //! What calls leave and answer: a flash in memory, torn and stopped, one that never fails, and a file.
 
+use crate::check::{same, same_at};
 use flash_dev::{FileFlash, Flash, MemFlash, SureFlash, Tear};
 use std::fs;
 use std::test::Fail;
@@ -32,12 +33,16 @@ fn torn_calls_leave_what_their_tears_say(rt: HostRuntime) -> Result<(), Fail> {
         let mut flash = MemFlash::holding(rt.alloc(), &[0, 100, 200, 255], 4, 1)?;
         flash.fail_at(1, tear)?;
         assert!(rt; flash.erase(0).is_err());
-        assert_eq!(rt; flash.contents(), erased.as_slice(), "erase {tear:?}");
+        same(&rt, &(tear, flash.contents()), &(tear, erased.as_slice()));
 
         let mut flash = MemFlash::blank(rt.alloc(), 1, 4, 1)?;
         flash.fail_at(1, tear)?;
         assert!(rt; flash.program(0, &[0x10, 0x11, 0x12, 0x13]).is_err());
-        assert_eq!(rt; flash.contents(), programmed.as_slice(), "program {tear:?}");
+        same(
+            &rt,
+            &(tear, flash.contents()),
+            &(tear, programmed.as_slice()),
+        );
     }
     Ok(())
 }
@@ -49,12 +54,12 @@ fn a_flash_in_memory_holds_what_is_programmed(rt: HostRuntime) -> Result<(), Fai
     flash.program(5, &[1, 2])?;
     let mut buf = [0u8; 3];
     flash.read(4, &mut buf)?;
-    assert_eq!(rt; buf.as_slice(), [255, 1, 2].as_slice());
+    same(&rt, &buf.as_slice(), &[255, 1, 2].as_slice());
     assert!(rt; flash.read(4, &mut buf).is_err());
     flash.read(4, &mut buf)?;
     flash.erase(1)?;
-    assert_eq!(rt; flash.contents(), [255; 8].as_slice());
-    assert_eq!(rt; (flash.blocks(), flash.block_size()), (2, 4));
+    same(&rt, &flash.contents(), &[255; 8].as_slice());
+    assert!(rt; (flash.blocks(), flash.block_size()) == (2, 4));
     Ok(())
 }
 
@@ -63,7 +68,7 @@ fn calls_past_the_room_and_after_a_stop_change_nothing(rt: HostRuntime) -> Resul
     let mut flash = MemFlash::blank(rt.alloc(), 1, 4, 1)?;
     flash.program(0, &[7])?;
     assert!(rt; flash.erase(0).is_err(), "past the room");
-    assert_eq!(rt; flash.contents(), [7, 255, 255, 255].as_slice());
+    same(&rt, &flash.contents(), &[7, 255, 255, 255].as_slice());
 
     let mut flash = MemFlash::holding(rt.alloc(), &[1, 2, 3, 4], 2, 9)?;
     flash.stop_at(2, Tear::Front(1));
@@ -71,7 +76,7 @@ fn calls_past_the_room_and_after_a_stop_change_nothing(rt: HostRuntime) -> Resul
     assert!(rt; flash.erase(0).is_err(), "the call that stops");
     assert!(rt; flash.erase(0).is_err(), "a later one");
     assert!(rt; flash.read(0, &mut [0]).is_err(), "a later read");
-    assert_eq!(rt; flash.contents(), [255, 2, 255, 255].as_slice());
+    same(&rt, &flash.contents(), &[255, 2, 255, 255].as_slice());
     Ok(())
 }
 
@@ -83,12 +88,13 @@ fn a_sure_flash_holds_what_is_programmed(rt: HostRuntime) -> Result<(), Fail> {
     flash.erase(1)?;
     let mut buf = [0u8; 2];
     flash.read(0, &mut buf)?;
-    assert_eq!(rt; buf.as_slice(), [3, 255].as_slice());
-    assert_eq!(rt;
-        flash.contents(),
-        [3, 255, 255, 255, 255, 255, 255, 255].as_slice()
+    same(&rt, &buf.as_slice(), &[3, 255].as_slice());
+    same(
+        &rt,
+        &flash.contents(),
+        &[3, 255, 255, 255, 255, 255, 255, 255].as_slice(),
     );
-    assert_eq!(rt; (flash.blocks(), flash.block_size()), (2, 4));
+    assert!(rt; (flash.blocks(), flash.block_size()) == (2, 4));
     Ok(())
 }
 
@@ -104,30 +110,31 @@ fn a_file_is_a_flash_of_its_whole_blocks(rt: HostRuntime) -> Result<(), Fail> {
     let path = path_of(&rt, "two_blocks")?;
     fs::write(&rt, path.as_str(), [0u8; 8192])?;
     let mut flash = FileFlash::new(&rt, path.clone()?);
-    assert_eq!(rt; (flash.blocks(), flash.block_size()), (2, 4096));
+    assert!(rt; (flash.blocks(), flash.block_size()) == (2, 4096));
     flash.erase(1)?;
     flash.program(4100, &[1, 2, 3])?;
     let mut buf = [0u8; 6];
     flash.read(4094, &mut buf)?;
-    assert_eq!(rt; buf.as_slice(), [0, 0, 255, 255, 255, 255].as_slice());
+    same(&rt, &buf.as_slice(), &[0, 0, 255, 255, 255, 255].as_slice());
     flash.read(4098, &mut buf)?;
-    assert_eq!(rt; buf.as_slice(), [255, 255, 1, 2, 3, 255].as_slice());
+    same(&rt, &buf.as_slice(), &[255, 255, 1, 2, 3, 255].as_slice());
     flash.program(4103, &[4])?;
     flash.read(4098, &mut buf)?;
-    assert_eq!(rt; buf.as_slice(), [255, 255, 1, 2, 3, 4].as_slice());
+    same(&rt, &buf.as_slice(), &[255, 255, 1, 2, 3, 4].as_slice());
     let held = fs::read(&rt, path.as_str())?;
-    assert_eq!(rt; held.len(), 8192);
+    assert!(rt; held.len() == 8192);
 
     let mut read_only = FileFlash::read_only(&rt, path.clone()?);
-    assert_eq!(rt; read_only.blocks(), 2);
+    assert!(rt; read_only.blocks() == 2);
     read_only.read(4098, &mut buf)?;
-    assert_eq!(rt; buf.as_slice(), [255, 255, 1, 2, 3, 4].as_slice());
+    same(&rt, &buf.as_slice(), &[255, 255, 1, 2, 3, 4].as_slice());
     assert!(rt; read_only.erase(0).is_err());
     assert!(rt; read_only.program(4096, &[0]).is_err());
-    assert_eq!(rt;
-        fs::read(&rt, path.as_str())?,
-        held,
-        "a flash that is only read stays as it is"
+    same_at(
+        &rt,
+        "a flash that is only read stays as it is",
+        &fs::read(&rt, path.as_str())?,
+        &held,
     );
     fs::remove_file(&rt, path.as_str())?;
     Ok(())
@@ -137,25 +144,25 @@ fn a_file_is_a_flash_of_its_whole_blocks(rt: HostRuntime) -> Result<(), Fail> {
 fn a_file_that_is_no_flash_has_no_blocks_and_a_folder_four(rt: HostRuntime) -> Result<(), Fail> {
     let path = path_of(&rt, "odd")?;
     let absent = FileFlash::new(&rt, path.clone()?);
-    assert_eq!(rt; absent.blocks(), 0);
+    assert!(rt; absent.blocks() == 0);
     let absent = FileFlash::read_only(&rt, path.clone()?);
-    assert_eq!(rt; absent.blocks(), 0);
+    assert!(rt; absent.blocks() == 0);
     fs::write(&rt, path.as_str(), [0u8; 0])?;
     let empty = FileFlash::new(&rt, path.clone()?);
-    assert_eq!(rt; empty.blocks(), 0);
+    assert!(rt; empty.blocks() == 0);
     fs::write(&rt, path.as_str(), [0u8; 4097])?;
     let odd = FileFlash::new(&rt, path.clone()?);
-    assert_eq!(rt; odd.blocks(), 0);
+    assert!(rt; odd.blocks() == 0);
     fs::remove_file(&rt, path.as_str())?;
 
     fs::create_dir(&rt, path.as_str())?;
     let mut folder = FileFlash::new(&rt, path.clone()?);
-    assert_eq!(rt; folder.blocks(), 4);
+    assert!(rt; folder.blocks() == 4);
     assert!(rt; folder.read(0, &mut [0]).is_err());
     assert!(rt; folder.erase(3).is_err());
     assert!(rt; folder.program(0, &[1]).is_err());
     let mut folder = FileFlash::read_only(&rt, path.clone()?);
-    assert_eq!(rt; folder.blocks(), 4);
+    assert!(rt; folder.blocks() == 4);
     assert!(rt; folder.read(0, &mut [0]).is_err());
     fs::remove_dir(&rt, path.as_str())?;
     Ok(())

@@ -1,5 +1,6 @@
 //! Layout 2: which flash gets it, what boot takes over slots, and journals that are refused.
 
+use crate::check::same;
 use crate::flash_bank_tests::install;
 use flash_bank::{Bank, BootFault, Record, boot, format, format_one};
 use flash_dev::MemFlash;
@@ -77,7 +78,7 @@ fn format_writes_layout_2_where_an_area_has_1_048_576_bytes(rt: HostRuntime) -> 
         let mut flash = MemFlash::blank(rt.alloc(), blocks, 4096, 1024)?;
         let head = format(&mut flash, &IMAGE, OLD)?;
         assert!(rt; head.layout == layout);
-        let front = flash.contents().get(..8).ok_or("8 bytes")?;
+        let front = flash.contents().get(..8).expect(&rt, "8 bytes");
         let stated = [0x53, 0xAC, 0x53, 0xAC, 0x55, 0xAA, magic, 255 - magic];
         assert!(rt; front == stated.as_slice());
     }
@@ -103,7 +104,7 @@ fn boot_lays_valid_slots_over_the_bank(rt: HostRuntime) -> Result<(), Fail> {
     put(&mut held, SLOTS + 3 * 4352, &[0xFF]);
     put(&mut held, SLOTS + 3 * 4352 + 256, &[103]);
     let (head, image) = booted(rt.alloc(), &held)?;
-    assert_eq!(rt; (head.layout, head.number, head.bank), (2, 1, 0));
+    same(&rt, &(head.layout, head.number, head.bank), &(2, 1, 0));
     let laid = [1, 2, 3, 100, 102, 6, 7, 8, 9, 10, 11, 12, 13, 14, 15, 16];
     assert!(rt; image.as_slice() == laid.as_slice());
     Ok(())
@@ -135,9 +136,10 @@ fn an_image_is_installed_in_the_other_area(rt: HostRuntime) -> Result<(), Fail> 
     format(&mut flash, &IMAGE, OLD)?;
     install(&mut flash, &[9, 8, 7])?;
     let (head, image) = booted(rt.alloc(), flash.contents())?;
-    assert_eq!(rt;
-        (head.layout, head.number, head.bank, head.length),
-        (2, 2, 1, 3)
+    same(
+        &rt,
+        &(head.layout, head.number, head.bank, head.length),
+        &(2, 2, 1, 3),
     );
     assert!(rt; image.as_slice() == [9, 8, 7].as_slice());
     Ok(())

@@ -6,6 +6,7 @@ ghost use Rattle.flash_stage.specs.Leaving.{SameBank};
 ghost use Rattle.flash_stage.specs.Outline.{outline_of};
 ghost use Rattle.ssu_group.specs.Map.{missing_below};
 
+use crate::check::same;
 use arrayvec::ArrayVec;
 use dsmcc_msg::{Ddb, Dii, DiiWriter};
 use flash_bank::{Bank, FlashFault, Record, boot, format};
@@ -43,17 +44,16 @@ fn block_of(module: u16, number: u16, bytes: &'static [u8]) -> Block {
     }
 }
 
-/// A plan in blocks of four bytes: module 1 of five bytes, module 2 of three.
-fn plan(alloc: Global) -> Result<GroupPlan, Fail> {
+/// The message of a DII in blocks of four bytes: module 1 of five bytes, module 2 of three.
+fn message(alloc: Global) -> Result<Vec<u8>, Fail> {
     let mut writer = DiiWriter::new(alloc, 2, 2, 4)?;
     writer.module(1, 5, 0, &[])?;
     writer.module(2, 3, 0, &[])?;
     let section = writer.finish().ok().ok_or("memory")?;
     let dii = Dii::read(&section).ok_or("no DII")?;
-    match GroupPlan::of(&dii, 512) {
-        Ok(plan) => Ok(plan),
-        Err(_) => Err("it can be used".into()),
-    }
+    let mut message = Vec::new(alloc);
+    message.extend_from_slice(dii.message())?;
+    Ok(message)
 }
 
 /// Stages the block, if it fills a place.
@@ -138,27 +138,30 @@ fn module_crcs<S: Stage, F: Flash>(
     Ok(())
 }
 
-/// Stages these blocks, and installs the group if it is whole. The answer is how many places are missing; whatever fails
-/// is a fault.
+/// Stages these blocks of the group of this message, and installs it if it is whole. The answer is how many places are missing;
+/// whatever fails is a fault.
 fn install<S: Stage, F: Flash>(
     alloc: Global,
     flash: &mut F,
-    plan: &GroupPlan,
+    message: &[u8],
     blocks: &[Block],
     crcs: &mut ArrayVec<u32, 512>,
 ) -> Result<u32, FlashFault> {
     let mut bank = Bank::open(flash).map_err(|_| FlashFault)?;
-    if plan.total > bank.bank_len() {
+    let Some(dii) = Dii::read_message(message) else {
         return Err(FlashFault);
-    }
+    };
+    let Ok(plan) = GroupPlan::of(&dii, bank.bank_len()) else {
+        return Err(FlashFault);
+    };
     let mut stage = S::make(alloc, &bank).map_err(|_| FlashFault)?;
-    stage.start(&mut bank, flash, plan)?;
-    offer_all(&mut stage, &mut bank, flash, plan, blocks)?;
+    stage.start(&mut bank, flash, message, &plan)?;
+    offer_all(&mut stage, &mut bank, flash, &plan, blocks)?;
     let missing = stage.missing();
     if missing != 0 {
         return Ok(missing);
     }
-    module_crcs(&mut stage, &mut bank, flash, plan, crcs)?;
+    module_crcs(&mut stage, &mut bank, flash, &plan, crcs)?;
     stage.finish(&mut bank, flash, NEW, 7)?;
     Ok(0)
 }
@@ -196,19 +199,19 @@ fn blocks() -> [Block; 6] {
 
 #[test]
 fn places_come_in_any_order_and_become_the_image(rt: HostRuntime) -> Result<(), Fail> {
-    let plan = plan(rt.alloc())?;
+    let message = message(rt.alloc())?;
     let mut flash = formatted(rt.alloc())?;
     let mut crcs = ArrayVec::new();
     let missing = install::<RamStage, MemFlash>(
         rt.alloc(),
         &mut flash,
-        &plan,
+        &message,
         &blocks(),
         &mut crcs,
     )?;
-    assert_eq!(rt; missing, 0);
+    same(&rt, &missing, &0);
     let stated = [ts_crc::crc(b"12345"), ts_crc::crc(b"678")];
-    assert_eq!(rt; crcs.as_slice(), stated.as_slice());
+    same(&rt, &crcs.as_slice(), &stated.as_slice());
     let (head, image) = booted(rt.alloc(), &flash)?;
     let stated = Record {
         layout: 1,
@@ -218,72 +221,73 @@ fn places_come_in_any_order_and_become_the_image(rt: HostRuntime) -> Result<(), 
         software: NEW,
         group: 7,
     };
-    assert_eq!(rt; head, stated);
-    assert_eq!(rt; image.as_slice(), b"12345678".as_slice());
+    same(&rt, &head, &stated);
+    same(&rt, &image.as_slice(), &b"12345678".as_slice());
     Ok(())
 }
 
 #[test]
 fn places_become_the_image_in_the_bank_too(rt: HostRuntime) -> Result<(), Fail> {
-    let plan = plan(rt.alloc())?;
+    let message = message(rt.alloc())?;
     let mut flash = formatted(rt.alloc())?;
     let mut crcs = ArrayVec::new();
     let missing = install::<BankStage, MemFlash>(
         rt.alloc(),
         &mut flash,
-        &plan,
+        &message,
         &blocks()[..5],
         &mut crcs,
     )?;
-    assert_eq!(rt; missing, 1);
+    same(&rt, &missing, &1);
     // The spare bank has the places that were staged, and boot takes what it took.
-    let held = flash.contents().get(1024..1032).ok_or("a bank")?;
-    assert_eq!(rt;
-        held,
-        [255, 255, 255, 255, b'5', b'6', b'7', b'8'].as_slice()
+    let held = flash.contents().get(1024..1032).expect(&rt, "a bank");
+    same(
+        &rt,
+        &held,
+        &[255, 255, 255, 255, b'5', b'6', b'7', b'8'].as_slice(),
     );
     let (head, image) = booted(rt.alloc(), &flash)?;
-    assert_eq!(rt; head.number, 1);
-    assert_eq!(rt; image.as_slice(), b"old".as_slice());
+    same(&rt, &head.number, &1);
+    same(&rt, &image.as_slice(), &b"old".as_slice());
 
     let missing = install::<BankStage, MemFlash>(
         rt.alloc(),
         &mut flash,
-        &plan,
+        &message,
         &blocks(),
         &mut crcs,
     )?;
-    assert_eq!(rt; missing, 0);
+    same(&rt, &missing, &0);
     let stated = [ts_crc::crc(b"12345"), ts_crc::crc(b"678")];
-    assert_eq!(rt; crcs.as_slice(), stated.as_slice());
+    same(&rt, &crcs.as_slice(), &stated.as_slice());
     let (head, image) = booted(rt.alloc(), &flash)?;
-    assert_eq!(rt; (head.number, head.bank, head.length), (2, 1, 8));
-    assert_eq!(rt; image.as_slice(), b"12345678".as_slice());
+    same(&rt, &(head.number, head.bank, head.length), &(2, 1, 8));
+    same(&rt, &image.as_slice(), &b"12345678".as_slice());
     Ok(())
 }
 
 #[test]
 fn without_the_last_block_boot_takes_what_it_took(rt: HostRuntime) -> Result<(), Fail> {
-    let plan = plan(rt.alloc())?;
+    let message = message(rt.alloc())?;
     let mut flash = formatted(rt.alloc())?;
     let mut crcs = ArrayVec::new();
     let missing = install::<RamStage, MemFlash>(
         rt.alloc(),
         &mut flash,
-        &plan,
+        &message,
         &blocks()[..5],
         &mut crcs,
     )?;
-    assert_eq!(rt; missing, 1);
+    same(&rt, &missing, &1);
     let (head, image) = booted(rt.alloc(), &flash)?;
-    assert_eq!(rt; head.number, 1);
-    assert_eq!(rt; image.as_slice(), b"old".as_slice());
+    same(&rt, &head.number, &1);
+    same(&rt, &image.as_slice(), &b"old".as_slice());
     Ok(())
 }
 
 #[test]
 fn a_stop_before_the_record_is_whole_keeps_the_old_image(rt: HostRuntime) -> Result<(), Fail> {
-    let plan = plan(rt.alloc())?;
+    let message = message(rt.alloc())?;
     // after the six calls of `format`: the spare record block, two bank blocks, the image and the record
     for call in 7..=11u32 {
         let mut flash = formatted(rt.alloc())?;
@@ -292,14 +296,14 @@ fn a_stop_before_the_record_is_whole_keeps_the_old_image(rt: HostRuntime) -> Res
         let answer = install::<RamStage, MemFlash>(
             rt.alloc(),
             &mut flash,
-            &plan,
+            &message,
             &blocks(),
             &mut crcs,
         );
-        assert_eq!(rt; answer, Err(FlashFault), "call {call}");
+        same(&rt, &(call, answer), &(call, Err(FlashFault)));
         let (head, image) = booted(rt.alloc(), &flash)?;
-        assert_eq!(rt; head.number, 1, "call {call}");
-        assert_eq!(rt; image.as_slice(), b"old".as_slice(), "call {call}");
+        same(&rt, &(call, head.number), &(call, 1));
+        same(&rt, &(call, image.as_slice()), &(call, b"old".as_slice()));
     }
     Ok(())
 }

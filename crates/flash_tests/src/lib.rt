@@ -2,6 +2,8 @@
 #![tactic(auto)]
 
 #[cfg(test)]
+mod check;
+#[cfg(test)]
 mod flash_bank_journal_tests;
 #[cfg(test)]
 mod flash_bank_tests;

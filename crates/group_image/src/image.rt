@@ -96,6 +96,17 @@ impl GroupImage {
         self.total = plan.total;
     }
 
+    /// Takes all places out. The plan stays.
+    pub fn forget(&mut self)
+        ensures places { self.new.map.places ≡ self.old.map.places }
+        ensures total { self.new.total ≡ self.old.total }
+        ensures plan { (plan : GroupPlan) → IsFor plan self.old → IsFor plan self.new }
+        ensures none { IsEmpty self.new }
+        ensures room { (other : GroupPlan) → HasRoom other self.old → HasRoom other self.new }
+    {
+        self.map.unmark_all();
+    }
+
     /// Takes the bytes of a place. One that is there already keeps its first bytes.
     pub fn offer(&mut self, place: Place, bytes: &[u8])
         requires place { TakesPlace self.old place }

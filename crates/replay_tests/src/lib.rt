@@ -2,7 +2,10 @@
 #![tactic(auto)]
 
 #[cfg(test)]
+mod check;
+#[cfg(test)]
 mod night_tests;
+#[cfg(test)]
 pub mod public_names;
 #[cfg(test)]
 mod ssu_tool_tests;

@@ -1,5 +1,6 @@
 //! A night's update of 4 MB, of which some packets are lost on the way, to a box that takes it in a window.
 
+use crate::check::same;
 use flash_bank::format;
 use flash_dev::SureFlash;
 use ssu_compat::SwId;
@@ -144,14 +145,14 @@ fn a_nights_update_is_installed_in_its_window(rt: HostRuntime) -> Result<(), Fai
         let built = outcome_of(alloc, "build", &mut shelf, Vec::new(alloc), &mut flash)?;
         assert!(rt; built.put.starts_with("sections 1040 packets ".as_bytes()));
         let aired = outcome_of(alloc, "air", &mut shelf, built.made, &mut flash)?;
-        assert_eq!(rt; aired.status, Status::Done);
+        same(&rt, &aired.status, &Status::Done);
         let replayed = outcome_of(alloc, "replay", &mut shelf, aired.made, &mut flash)?;
-        assert_eq!(rt; replayed.status.code(), code);
-        assert_eq!(rt; replayed.put.as_slice(), line.as_bytes());
+        same(&rt, &replayed.status.code(), &code);
+        same(&rt, &replayed.put.as_slice(), &line.as_bytes());
         let booted = outcome_of(alloc, "boot", &mut shelf, Vec::new(alloc), &mut flash)?;
-        assert_eq!(rt; booted.status, Status::Done);
+        same(&rt, &booted.status, &Status::Done);
         let image = if is_updated { joined.as_slice() } else { OLD };
-        assert_eq!(rt; booted.made.as_slice(), image);
+        same(&rt, &booted.made.as_slice(), &image);
     }
     Ok(())
 }

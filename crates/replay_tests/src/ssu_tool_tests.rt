@@ -2,6 +2,7 @@
 
 ghost use Rattle.std.specs.Prelude.{◌+◌, ◌≤◌};
 
+use crate::check::same;
 use flash_dev::{Flash, SureFlash};
 use ssu_io::{MemShelf, MemSink, MemSource};
 use ssu_status::Status;
@@ -105,12 +106,12 @@ fn hear_puts_the_sections_of_its_pid(rt: HostRuntime) -> Result<(), Fail> {
     ];
     for (pid, put) in rows {
         let outcome = outcome_of(alloc, &["folder", "hear", pid], air.clone()?, &[], &[])?;
-        assert_eq!(rt; outcome.status, Status::Done, "hear {pid}");
-        assert_eq!(rt; outcome.put.as_slice(), put, "hear {pid}");
+        same(&rt, &(pid, outcome.status), &(pid, Status::Done));
+        same(&rt, &(pid, outcome.put.as_slice()), &(pid, put));
         assert!(rt; outcome.made.is_empty());
     }
     let outcome = outcome_of(alloc, &["folder", "hear", "0"], Vec::new(alloc), &[], &[])?;
-    assert_eq!(rt; outcome.status, Status::Done);
+    same(&rt, &outcome.status, &Status::Done);
     assert!(rt; outcome.put.is_empty());
     Ok(())
 }
@@ -131,8 +132,8 @@ fn faults_are_told_from_each_other(rt: HostRuntime) -> Result<(), Fail> {
     ];
     for (words, fails, sink_fails, status, put) in rows {
         let outcome = outcome_of(alloc, words, air.clone()?, fails, sink_fails)?;
-        assert_eq!(rt; outcome.status, status);
-        assert_eq!(rt; outcome.put.len(), put);
+        same(&rt, &outcome.status, &status);
+        same(&rt, &outcome.put.len(), &put);
     }
     Ok(())
 }
@@ -162,8 +163,8 @@ fn random_bytes_and_unusable_packets_are_passed_over(rt: HostRuntime) -> Result<
     }
     add_packet(&mut air, &TDT_PACKET)?;
     let outcome = outcome_of(alloc, &["folder", "hear", "20"], air, &[], &[])?;
-    assert_eq!(rt; outcome.status, Status::Done);
-    assert_eq!(rt; outcome.put.as_slice(), &TDT_PACKET[5..]);
+    same(&rt, &outcome.status, &Status::Done);
+    same(&rt, &outcome.put.as_slice(), &&TDT_PACKET[5..]);
     Ok(())
 }
 
@@ -179,19 +180,19 @@ fn a_pat_is_heard_unless_a_bit_of_it_changed(rt: HostRuntime) -> Result<(), Fail
         body: &[0x00, 0x03, 0xE1, 0x00],
     };
     let section = long_section(alloc, head, false)?;
-    assert_eq!(rt; section.len(), 16);
-    assert_eq!(rt; section[0], 0x00);
+    assert!(rt; section.len() == 16);
+    assert!(rt; section[0] == 0x00);
     let mut air = Vec::new(alloc);
-    let _counter = cut(&section, Pid::new(0).ok_or("a PID")?, 0, &mut air)?;
+    let _counter = cut(&section, Pid::new(0).expect(&rt, "a PID"), 0, &mut air)?;
     let heard = outcome_of(alloc, &["folder", "hear", "0"], air.clone()?, &[], &[])?;
-    assert_eq!(rt; heard.status, Status::Done);
-    assert_eq!(rt; heard.put.as_slice(), section.as_slice());
+    same(&rt, &heard.status, &Status::Done);
+    same(&rt, &heard.put.as_slice(), &section.as_slice());
     for place in 5..21usize {
         let mut changed = air.clone()?;
-        assert_eq!(rt; changed.len(), 188);
+        assert!(rt; changed.len() == 188);
         changed[place] ^= 0x10;
         let heard = outcome_of(alloc, &["folder", "hear", "0"], changed, &[], &[])?;
-        assert_eq!(rt; heard.status, Status::Done);
+        same(&rt, &heard.status, &Status::Done);
         assert!(rt; heard.put.is_empty(), "place {place}");
     }
     Ok(())
@@ -249,21 +250,26 @@ fn a_built_stream_is_found_and_loaded(rt: HostRuntime) -> Result<(), Fail> {
     let mut flash = SureFlash::blank(alloc, 4, 256)?;
     let none = Vec::new(alloc);
     let built = outcome_on(alloc, &["folder", "build"], &mut shelf, none, &mut flash)?;
-    assert_eq!(rt; built.status, Status::Done);
-    assert_eq!(rt; built.put.as_slice(), "sections 7 packets 40\n".as_bytes());
-    assert_eq!(rt; built.made.len(), 40 * 188usize);
+    same(&rt, &built.status, &Status::Done);
+    same(
+        &rt,
+        &built.put.as_slice(),
+        &"sections 7 packets 40\n".as_bytes(),
+    );
+    same(&rt, &built.made.len(), &(40 * 188usize));
     let air = built.made.clone()?;
     let found = outcome_on(alloc, &["folder", "find"], &mut shelf, air, &mut flash)?;
-    assert_eq!(rt; found.status, Status::Done);
-    assert_eq!(rt; found.put.as_slice(), FOUND.as_bytes());
+    same(&rt, &found.status, &Status::Done);
+    same(&rt, &found.put.as_slice(), &FOUND.as_bytes());
     let words = ["folder", "load", "258"];
     let loaded = outcome_on(alloc, &words, &mut shelf, built.made, &mut flash)?;
-    assert_eq!(rt; loaded.status, Status::Done);
-    assert_eq!(rt;
-        loaded.put.as_slice(),
-        "loaded group 2147483650 bytes 9\n".as_bytes()
+    same(&rt, &loaded.status, &Status::Done);
+    same(
+        &rt,
+        &loaded.put.as_slice(),
+        &"loaded group 2147483650 bytes 9\n".as_bytes(),
     );
-    assert_eq!(rt; loaded.made.as_slice(), "123456789".as_bytes());
+    same(&rt, &loaded.made.as_slice(), &"123456789".as_bytes());
     Ok(())
 }
 
@@ -344,9 +350,9 @@ fn a_built_stream_that_was_changed_is_not_loaded(rt: HostRuntime) -> Result<(), 
         let air = air.to_vec(alloc)?;
         let words = ["folder", "load", "258"];
         let loaded = outcome_on(alloc, &words, &mut shelf, air, &mut flash)?;
-        assert_eq!(rt; loaded.status.code(), code);
-        assert_eq!(rt; loaded.put.as_slice(), line.as_bytes());
-        assert_eq!(rt; loaded.made.is_empty(), code != 0);
+        same(&rt, &loaded.status.code(), &code);
+        same(&rt, &loaded.put.as_slice(), &line.as_bytes());
+        same(&rt, &loaded.made.is_empty(), &(code != 0));
     }
     Ok(())
 }
@@ -388,8 +394,8 @@ fn a_built_stream_is_audited(rt: HostRuntime) -> Result<(), Fail> {
         let mut packets = air.to_vec(alloc)?;
         packets.extend_from_slice(behind)?;
         let audited = outcome_of(alloc, &["folder", "audit", "258"], packets, &[], &[])?;
-        assert_eq!(rt; audited.status.code(), code);
-        assert_eq!(rt; audited.put.as_slice(), line.as_bytes());
+        same(&rt, &audited.status.code(), &code);
+        same(&rt, &audited.put.as_slice(), &line.as_bytes());
         assert!(rt; audited.made.is_empty());
     }
     Ok(())
@@ -467,7 +473,11 @@ fn a_level_ends_where_its_section_is_left_out(rt: HostRuntime) -> Result<(), Fai
     let mut flash = SureFlash::blank(alloc, 4, 256)?;
     let none = Vec::new(alloc);
     let built = outcome_on(alloc, &["folder", "build"], &mut shelf, none, &mut flash)?;
-    assert_eq!(rt; built.put.as_slice(), "sections 8 packets 8\n".as_bytes());
+    same(
+        &rt,
+        &built.put.as_slice(),
+        &"sections 8 packets 8\n".as_bytes(),
+    );
     // The packet that is left out (NIT, PAT, PMT, UNT, TDT, DSI, DII, DDB), and how many levels have a value then.
     let rows = [
         (0usize, 0usize),
@@ -482,8 +492,12 @@ fn a_level_ends_where_its_section_is_left_out(rt: HostRuntime) -> Result<(), Fai
     for (left_out, levels) in rows {
         let air = without(alloc, &built.made, left_out)?;
         let found = outcome_on(alloc, &["folder", "find"], &mut shelf, air, &mut flash)?;
-        assert_eq!(rt; found.status, Status::Done);
-        assert_eq!(rt; found.put.as_slice(), lines_of(alloc, levels)?.as_slice());
+        same(&rt, &found.status, &Status::Done);
+        same(
+            &rt,
+            &found.put.as_slice(),
+            &lines_of(alloc, levels)?.as_slice(),
+        );
     }
     Ok(())
 }
@@ -501,21 +515,25 @@ fn a_formatted_flash_is_booted(rt: HostRuntime) -> Result<(), Fail> {
         none,
         &mut flash,
     )?;
-    assert_eq!(rt; blank.put.as_slice(), "blank 4\n".as_bytes());
-    assert_eq!(rt; blank.made.len(), 4 * 4096usize);
-    assert_eq!(rt; blank.made.as_slice(), flash.contents());
+    same(&rt, &blank.put.as_slice(), &"blank 4\n".as_bytes());
+    same(&rt, &blank.made.len(), &(4 * 4096usize));
+    same(&rt, &blank.made.as_slice(), &flash.contents());
     let none = Vec::new(alloc);
     let foreign = outcome_on(alloc, &["folder", "boot"], &mut shelf, none, &mut flash)?;
-    assert_eq!(rt; foreign.status, Status::Foreign);
+    same(&rt, &foreign.status, &Status::Foreign);
     let words = ["folder", "format", "a.bin"];
     let none = Vec::new(alloc);
     let formatted = outcome_on(alloc, &words, &mut shelf, none, &mut flash)?;
-    assert_eq!(rt; formatted.put.as_slice(), "formatted bytes 9\n".as_bytes());
+    same(
+        &rt,
+        &formatted.put.as_slice(),
+        &"formatted bytes 9\n".as_bytes(),
+    );
     let none = Vec::new(alloc);
     let booted = outcome_on(alloc, &["folder", "boot"], &mut shelf, none, &mut flash)?;
-    assert_eq!(rt; booted.made.as_slice(), "123456789".as_bytes());
+    same(&rt, &booted.made.as_slice(), &"123456789".as_bytes());
     let line = "boot bank 0 number 1 software 1.1 bytes 9\n".as_bytes();
-    assert_eq!(rt; booted.put.as_slice(), line);
+    same(&rt, &booted.put.as_slice(), &line);
     Ok(())
 }
 
@@ -526,23 +544,23 @@ fn a_built_stream_is_installed_and_booted(rt: HostRuntime) -> Result<(), Fail> {
     let mut flash = SureFlash::blank(alloc, 4, 4096)?;
     let none = Vec::new(alloc);
     let built = outcome_on(alloc, &["folder", "build"], &mut shelf, none, &mut flash)?;
-    assert_eq!(rt; built.status, Status::Done);
+    same(&rt, &built.status, &Status::Done);
     // box.toml is the old image
     let words = ["folder", "format", "box.toml"];
     let none = Vec::new(alloc);
     let formatted = outcome_on(alloc, &words, &mut shelf, none, &mut flash)?;
-    assert_eq!(rt; formatted.status, Status::Done);
+    same(&rt, &formatted.status, &Status::Done);
     let words = ["folder", "replay"];
     let replayed = outcome_on(alloc, &words, &mut shelf, built.made, &mut flash)?;
-    assert_eq!(rt; replayed.status.code(), 0);
+    same(&rt, &replayed.status.code(), &0);
     let line = "installed group 2147483650 software 1.2 bytes 9\n".as_bytes();
-    assert_eq!(rt; replayed.put.as_slice(), line);
+    same(&rt, &replayed.put.as_slice(), &line);
     assert!(rt; replayed.made.is_empty());
     let none = Vec::new(alloc);
     let booted = outcome_on(alloc, &["folder", "boot"], &mut shelf, none, &mut flash)?;
-    assert_eq!(rt; booted.made.as_slice(), "123456789".as_bytes());
+    same(&rt, &booted.made.as_slice(), &"123456789".as_bytes());
     let line = "boot bank 1 number 2 software 1.2 bytes 9\n".as_bytes();
-    assert_eq!(rt; booted.put.as_slice(), line);
+    same(&rt, &booted.put.as_slice(), &line);
     Ok(())
 }
 
@@ -557,7 +575,7 @@ fn the_first_sixteen_of_seventeen_services_are_kept(rt: HostRuntime) -> Result<(
         ])?;
     }
     body.extend_from_slice(&[0xF0, 0])?;
-    assert_eq!(rt; body.len(), 242);
+    assert!(rt; body.len() == 242);
     let head = LongForm {
         table: 0x40,
         extension: 2,
@@ -567,14 +585,14 @@ fn the_first_sixteen_of_seventeen_services_are_kept(rt: HostRuntime) -> Result<(
         body: &body,
     };
     let section = long_section(alloc, head, true)?;
-    assert_eq!(rt; section.len(), 254);
-    assert_eq!(rt; section[0], 0x40);
+    assert!(rt; section.len() == 254);
+    assert!(rt; section[0] == 0x40);
     let mut air = Vec::new(alloc);
-    let _counter = cut(&section, Pid::new(0x10).ok_or("a PID")?, 0, &mut air)?;
+    let _counter = cut(&section, Pid::new(0x10).expect(&rt, "a PID"), 0, &mut air)?;
     let mut shelf = shelf_with(alloc, PLAN)?;
     let mut flash = SureFlash::blank(alloc, 4, 256)?;
     let found = outcome_on(alloc, &["folder", "find"], &mut shelf, air, &mut flash)?;
-    assert_eq!(rt; found.status, Status::Done);
+    same(&rt, &found.status, &Status::Done);
     assert!(rt; found.put.starts_with("1 services 16\n2 none\n".as_bytes()));
     Ok(())
 }
@@ -608,8 +626,8 @@ boot bank 1 number 2 software 1.2 bytes 93000
     for (number, lines) in rows {
         let words = ["folder", "sample", number];
         let outcome = outcome_of(alloc, &words, Vec::new(alloc), &[], &[])?;
-        assert_eq!(rt; outcome.status, Status::Done);
-        assert_eq!(rt; outcome.put.as_slice(), lines.as_bytes());
+        same(&rt, &outcome.status, &Status::Done);
+        same(&rt, &outcome.put.as_slice(), &lines.as_bytes());
         assert!(rt; outcome.made.is_empty());
     }
     Ok(())

@@ -1,5 +1,6 @@
 //! `replay` puts the blocks of a group straight into the spare bank: what the flash holds while the group is not whole.
 
+use crate::check::same;
 use flash_bank::Bank;
 use flash_dev::{MemFlash, Tear};
 use ssu_io::{MemShelf, MemSink, MemSource};
@@ -47,8 +48,10 @@ const END: usize = 22 * BLOCK;
 /// A file of 2,500 bytes.
 fn file(alloc: Global, first: u8) -> Result<Vec<u8>, AllocError> {
     let mut bytes = Vec::new(alloc);
-    for k in 0..2500u32 {
-        bytes.push(first ^ (k % 251) as u8)?;
+    let mut k = 0u8;
+    for _ in 0..2500u32 {
+        bytes.push(first.wrapping_add(k))?;
+        k = if k < 250 { k + 1 } else { 0 };
     }
     Ok(bytes)
 }
@@ -164,19 +167,24 @@ fn a_replay_that_failed_within_its_erases_is_run_again(rt: HostRuntime) -> Resul
     // the spare record block and four blocks of the bank: the erase of the fourth changes nothing and fails
     flash.fail_at(5, Tear::Front(0))?;
     let failed = outcome_on(alloc, &["replay"], &mut shelf, &packets, &mut flash)?;
-    assert_eq!(rt; failed.status, Status::FlashFault);
-    assert_eq!(rt; failed.status.code(), 12);
+    same(&rt, &failed.status, &Status::FlashFault);
+    same(&rt, &failed.status.code(), &12);
     assert!(rt; failed.put.is_empty());
     assert!(rt; is_all(&flash, BANK_1, BANK_1 + 3 * BLOCK, 255));
     assert!(rt; is_all(&flash, BANK_1 + 3 * BLOCK, END, 7));
-    assert_eq!(rt; booted(alloc, &mut shelf, &mut flash)?.as_slice(), OLD);
+    same(
+        &rt,
+        &booted(alloc, &mut shelf, &mut flash)?.as_slice(),
+        &OLD,
+    );
     let installed = outcome_on(alloc, &["replay"], &mut shelf, &packets, &mut flash)?;
-    assert_eq!(rt; installed.status.code(), 0);
+    same(&rt, &installed.status.code(), &0);
     let line = "installed group 2147483650 software 1.2 bytes 2500\n";
-    assert_eq!(rt; installed.put.as_slice(), line.as_bytes());
-    assert_eq!(rt;
-        booted(alloc, &mut shelf, &mut flash)?.as_slice(),
-        file(alloc, 0)?.as_slice()
+    same(&rt, &installed.put.as_slice(), &line.as_bytes());
+    same(
+        &rt,
+        &booted(alloc, &mut shelf, &mut flash)?.as_slice(),
+        &file(alloc, 0)?.as_slice(),
     );
     Ok(())
 }
@@ -189,14 +197,18 @@ fn the_blocks_that_came_are_in_the_spare_bank(rt: HostRuntime) -> Result<(), Fai
     let mut flash = flash_of(alloc, &mut shelf)?;
     let sent = without_the_last(&packets)?;
     let replayed = outcome_on(alloc, &["replay"], &mut shelf, sent, &mut flash)?;
-    assert_eq!(rt; replayed.status.code(), 7);
+    same(&rt, &replayed.status.code(), &7);
     let line = "incomplete group 2147483650 missing 1\n";
-    assert_eq!(rt; replayed.put.as_slice(), line.as_bytes());
+    same(&rt, &replayed.put.as_slice(), &line.as_bytes());
     let file = file(alloc, 0)?;
-    let came = file.get(..2000).ok_or("two blocks")?;
+    let came = file.get(..2000).expect(&rt, "two blocks");
     assert!(rt; has_at(&flash, BANK_1, came));
     assert!(rt; is_all(&flash, BANK_1 + 2000, END, 255));
-    assert_eq!(rt; booted(alloc, &mut shelf, &mut flash)?.as_slice(), OLD);
+    same(
+        &rt,
+        &booted(alloc, &mut shelf, &mut flash)?.as_slice(),
+        &OLD,
+    );
     // and so a bank that is opened then reads them
     let mut bank = Bank::open(&mut flash)?;
     if bank.bank_len() < 2000 {
@@ -204,7 +216,7 @@ fn the_blocks_that_came_are_in_the_spare_bank(rt: HostRuntime) -> Result<(), Fai
     }
     let mut front = [0u8; 2000];
     bank.peek(&mut flash, 0, &mut front)?;
-    assert_eq!(rt; front.as_slice(), came);
+    same(&rt, &front.as_slice(), &came);
     Ok(())
 }
 
@@ -215,7 +227,7 @@ fn a_choice_that_begins_ends_what_boot_took_before(rt: HostRuntime) -> Result<()
     let packets = packets_of(alloc, &mut shelf)?;
     let mut flash = flash_of(alloc, &mut shelf)?;
     let installed = outcome_on(alloc, &["replay"], &mut shelf, &packets, &mut flash)?;
-    assert_eq!(rt; installed.status.code(), 0);
+    same(&rt, &installed.status.code(), &0);
     // the record and the image of the first formatting are there
     assert!(rt; has_at(&flash, 0, &[0x53, 0xAC]));
     assert!(rt; has_at(&flash, BANK_0, OLD));
@@ -223,19 +235,21 @@ fn a_choice_that_begins_ends_what_boot_took_before(rt: HostRuntime) -> Result<()
     let packets = packets_of(alloc, &mut shelf)?;
     let sent = without_the_last(&packets)?;
     let replayed = outcome_on(alloc, &["replay"], &mut shelf, sent, &mut flash)?;
-    assert_eq!(rt; replayed.status.code(), 7);
+    same(&rt, &replayed.status.code(), &7);
     assert!(rt; is_all(&flash, 0, BLOCK, 255));
     let newer = file(alloc, 0xA5)?;
-    assert!(rt; has_at(&flash, BANK_0, newer.get(..2000).ok_or("two blocks")?));
-    assert_eq!(rt;
-        booted(alloc, &mut shelf, &mut flash)?.as_slice(),
-        file(alloc, 0)?.as_slice()
+    assert!(rt; has_at(&flash, BANK_0, newer.get(..2000).expect(&rt, "two blocks")));
+    same(
+        &rt,
+        &booted(alloc, &mut shelf, &mut flash)?.as_slice(),
+        &file(alloc, 0)?.as_slice(),
     );
     let installed = outcome_on(alloc, &["replay"], &mut shelf, &packets, &mut flash)?;
-    assert_eq!(rt; installed.status.code(), 0);
-    assert_eq!(rt;
-        booted(alloc, &mut shelf, &mut flash)?.as_slice(),
-        newer.as_slice()
+    same(&rt, &installed.status.code(), &0);
+    same(
+        &rt,
+        &booted(alloc, &mut shelf, &mut flash)?.as_slice(),
+        &newer.as_slice(),
     );
     Ok(())
 }

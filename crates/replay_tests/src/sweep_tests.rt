@@ -1,6 +1,7 @@
 //! Each call of a run fails in turn: the flash at each erase, program and read, and the files and outputs of every command. Each
 //! loop goes on until the run does not meet the call, and so ends by itself.
 
+use crate::check::same;
 use flash_bank::{boot, format};
 use flash_dev::{MemFlash, Tear};
 use ssu_compat::SwId;
@@ -194,7 +195,7 @@ fn sweep(rt: &impl Abort, alloc: Global, air: &[u8], harm: Harm) -> Result<u32, 
             assert!(rt; boots_new(alloc, &outcome.held)?);
             return Ok(call - 1);
         }
-        assert_eq!(rt; outcome.status, Status::FlashFault);
+        same(rt, &outcome.status, &Status::FlashFault);
         assert!(rt; outcome.put.is_empty());
         // the new image was there one call ago, so that was the last one
         assert!(rt; !is_new);
@@ -245,7 +246,7 @@ fn each_fails(
         if outcome.status == whole.status {
             return Ok(());
         }
-        assert_eq!(rt; outcome.status, fault);
+        same(rt, &outcome.status, &fault);
     }
     Err("more calls".into())
 }

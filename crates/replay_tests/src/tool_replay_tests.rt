@@ -1,5 +1,6 @@
 //! Streams that `build` made, replayed to a flash in memory.
 
+use crate::check::same;
 use flash_bank::{boot, format};
 use flash_dev::{Flash, MemFlash, Tear};
 use flash_stage::{BankStage, RamStage, Stage};
@@ -182,13 +183,13 @@ fn verdicts_are_told<S: Stage>(rt: &impl Abort, alloc: Global) -> Result<(), Fai
     for (version, len, sent, status, line, image) in rows {
         let mut shelf = shelf_of(alloc, len, &[])?;
         let all = packets_of(alloc, &mut shelf)?;
-        assert_eq!(rt; all.len(), 8 * 188);
-        let air = all.get(..sent).ok_or("so many bytes")?;
+        same(rt, &all.len(), &(8 * 188));
+        let air = all.get(..sent).expect(rt, "so many bytes");
         let mut flash = flash_of(alloc, version)?;
         let outcome = replayed::<S, MemFlash>(alloc, &mut shelf, air, (&[], &[]), &mut flash)?;
-        assert_eq!(rt; outcome.status, status);
-        assert_eq!(rt; outcome.line.as_slice(), line.as_bytes());
-        assert_eq!(rt; booted(alloc, &mut flash)?.as_slice(), image);
+        same(rt, &outcome.status, &status);
+        same(rt, &outcome.line.as_slice(), &line.as_bytes());
+        same(rt, &booted(alloc, &mut flash)?.as_slice(), &image);
     }
     Ok(())
 }
@@ -209,9 +210,9 @@ fn faults_are_told_apart(rt: HostRuntime) -> Result<(), Fail> {
         let mut flash = flash_of(alloc, 1)?;
         let fails = (air_fails, out_fails);
         let outcome = replayed::<BankStage, MemFlash>(alloc, &mut shelf, &air, fails, &mut flash)?;
-        assert_eq!(rt; outcome.status, status);
+        same(&rt, &outcome.status, &status);
         assert!(rt; outcome.line.is_empty());
-        assert_eq!(rt; booted(alloc, &mut flash)?.as_slice(), image);
+        same(&rt, &booted(alloc, &mut flash)?.as_slice(), &image);
     }
     Ok(())
 }
@@ -229,12 +230,12 @@ fn a_failed_replay_is_run_again<S: Stage>(rt: &impl Abort, alloc: Global) -> Res
     // behind the five calls of the formatting, the erase of the bank fails
     flash.fail_at(7, Tear::Front(0))?;
     let outcome = replayed::<S, MemFlash>(alloc, &mut shelf, &air, (&[], &[]), &mut flash)?;
-    assert_eq!(rt; outcome.status, Status::FlashFault);
+    same(rt, &outcome.status, &Status::FlashFault);
     assert!(rt; outcome.line.is_empty());
-    assert_eq!(rt; booted(alloc, &mut flash)?.as_slice(), OLD);
+    same(rt, &booted(alloc, &mut flash)?.as_slice(), &OLD);
     let outcome = replayed::<S, MemFlash>(alloc, &mut shelf, &air, (&[], &[]), &mut flash)?;
-    assert_eq!(rt; outcome.status, Status::Installed(chosen(256)));
-    assert_eq!(rt; booted(alloc, &mut flash)?.len(), 256);
+    same(rt, &outcome.status, &Status::Installed(chosen(256)));
+    same(rt, &booted(alloc, &mut flash)?.len(), &256);
     Ok(())
 }
 
@@ -246,17 +247,17 @@ fn a_flash_is_refused_unchanged(rt: HostRuntime) -> Result<(), Fail> {
     let mut worn = worn_flash(alloc)?;
     let before = worn.contents().to_vec(alloc)?;
     let outcome = replayed::<BankStage, MemFlash>(alloc, &mut shelf, &air, (&[], &[]), &mut worn)?;
-    assert_eq!(rt; outcome.status, Status::Worn);
+    same(&rt, &outcome.status, &Status::Worn);
     assert!(rt; outcome.line.is_empty());
-    assert_eq!(rt; worn.contents(), before.as_slice());
+    same(&rt, &worn.contents(), &before.as_slice());
     let mut blank = MemFlash::blank(alloc, 4, 256, 64)?;
     let outcome = replayed::<BankStage, MemFlash>(alloc, &mut shelf, &air, (&[], &[]), &mut blank)?;
-    assert_eq!(rt; outcome.status, Status::Foreign);
+    same(&rt, &outcome.status, &Status::Foreign);
     let mut none = MemFlash::blank(alloc, 3, 256, 64)?;
     let outcome = replayed::<BankStage, MemFlash>(alloc, &mut shelf, &air, (&[], &[]), &mut none)?;
-    assert_eq!(rt; outcome.status, Status::Geometry);
+    same(&rt, &outcome.status, &Status::Geometry);
     let mut empty = MemShelf::new(alloc, Vec::new(alloc));
     let outcome = replayed::<BankStage, MemFlash>(alloc, &mut empty, &air, (&[], &[]), &mut worn)?;
-    assert_eq!(rt; outcome.status.code(), 9);
+    same(&rt, &outcome.status.code(), &9);
     Ok(())
 }

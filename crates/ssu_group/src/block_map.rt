@@ -93,6 +93,16 @@ impl BlockMap {
         self.missing = places;
     }
 
+    /// As many places as before, none of them marked.
+    pub fn unmark_all(&mut self)
+        ensures most { self.new.most ≡ self.old.most }
+        ensures places { self.new.places ≡ self.old.places }
+        ensures none { (k : ℕ) → k < self.old.places → marked self.new k ≡ false }
+    {
+        let places = self.places;
+        self.clear(places);
+    }
+
     /// Whether a place is marked.
     pub fn has(&self, number: u32) -> bool
         requires { number < self.now.places }

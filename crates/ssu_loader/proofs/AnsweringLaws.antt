@@ -68,6 +68,22 @@ five_where_none (Ok None) P Q R V W Z follows p q s v w = follows p q s v w
 five_where_none (Ok (Some x)) P Q R V W Z follows p q s v w = tt
 five_where_none (Err e) P Q R V W Z follows p q s v w = tt
 
+pub six_where_none : {A E : Type 0} (r : Result (Option A) E) (P Q R V W X Z : Type 0) → (P → Q → R → V → W → X → Z) → IfOk r (λ o. IfNone o P) → IfOk r (λ o. IfNone o Q)
+    → IfOk r (λ o. IfNone o R) → IfOk r (λ o. IfNone o V) → IfOk r (λ o. IfNone o W) → IfOk r (λ o. IfNone o X) → IfOk r (λ o. IfNone o Z)
+six_where_none (Ok None) P Q R V W X Z follows p q s v w x = follows p q s v w x
+six_where_none (Ok (Some y)) P Q R V W X Z follows p q s v w x = tt
+six_where_none (Err e) P Q R V W X Z follows p q s v w x = tt
+
+pub seven_where_none : {A E : Type 0} (r : Result (Option A) E) (P Q R V W X Y Z : Type 0) → (P → Q → R → V → W → X → Y → Z) → IfOk r (λ o. IfNone o P) → IfOk r (λ o. IfNone o Q)
+    → IfOk r (λ o. IfNone o R) → IfOk r (λ o. IfNone o V) → IfOk r (λ o. IfNone o W) → IfOk r (λ o. IfNone o X) → IfOk r (λ o. IfNone o Y) → IfOk r (λ o. IfNone o Z)
+seven_where_none (Ok None) P Q R V W X Y Z follows p q s v w x y = follows p q s v w x y
+seven_where_none (Ok (Some o)) P Q R V W X Y Z follows p q s v w x y = tt
+seven_where_none (Err e) P Q R V W X Y Z follows p q s v w x y = tt
+
+pub four_if_ok : {T E : Type 0} (P Q R V W : T → Type 0) (r : Result T E) → ((v : T) → P v → Q v → R v → V v → W v) → IfOk r P → IfOk r Q → IfOk r R → IfOk r V → IfOk r W
+four_if_ok P Q R V W (Ok v) follows p q s t = follows v p q s t
+four_if_ok P Q R V W (Err e) follows p q s t = tt
+
 pub inside_where_none : {A E : Type 0} (r : Result (Option A) E) (P Q : Type 0) → (P → IfOk r (λ o. IfNone o Q)) → IfOk r (λ o. IfNone o (P → Q))
 inside_where_none (Ok None) P Q follows = follows
 inside_where_none (Ok (Some x)) P Q follows = tt

@@ -32,7 +32,7 @@ none_behind : (left_after : Option (List ℕ)) (rest : List ℕ) → left_after 
 none_behind (Some r) rest e end = let same : r ≡ rest = cc in sym same ∙ end
 none_behind None rest e end = cc
 
-module _ (in_bank : Bool) (me : Receiver) (left left_after : Option (List ℕ)) (front rest : List ℕ) (chosen : Chosen) (image : List ℕ)
+module _ (known : Type 0) (kept : known) (in_bank keeps : Bool) (me : Receiver) (left left_after : Option (List ℕ)) (front rest : List ℕ) (chosen : Chosen) (image : List ℕ)
     (told : left ≡ Some (front ++ rest)) (reached : Reaches me (heard_in me front) (Whole chosen image)) where
   -- what is decided by the bytes that were taken
   same_decision : (taken : List ℕ) (other : Decision) → Takes left left_after taken → Reaches me (heard_in me taken) other → Whole chosen image ≡ other
@@ -58,7 +58,7 @@ module _ (in_bank : Bool) (me : Receiver) (left left_after : Option (List ℕ)) 
     abbrev IsIn : Verdict → Type 0
     IsIn v = (v ≡ Installed chosen) × BootOf g y (record { head = record_after before.head chosen; image = image })
 
-    verdict_is : (v : Verdict) → EndsWith in_bank me left left_after g x y v → IsIn v
+    verdict_is : (v : Verdict) → EndsWith in_bank keeps me left left_after g x y v → IsIn v
     verdict_is (Installed c) ends =
         let same : Whole chosen image ≡ Whole c ends.image =
         same_decision (ends.hears.earlier ++ ends.hears.packet) (Whole c ends.image) ends.hears.takes ends.hears.now in
@@ -79,14 +79,14 @@ module _ (in_bank : Bool) (me : Receiver) (left left_after : Option (List ℕ)) 
         let same : Whole chosen image ≡ TooMany = same_decision (comes.earlier ++ comes.packet) TooMany comes.takes comes.now.0 in
         cc
 
-    pub taking_installs : (result : Result Verdict LoadFault) → IfOk result (EndsWith in_bank me left left_after g x y)
-        → (IsErrOf result load_fault.TooLong → ReachesNone me left left_after IsOneMore)
+    pub taking_installs : (result : Result Verdict LoadFault) → IfOk result (EndsWith in_bank keeps me left left_after g x y)
+        → (IsErrOf result load_fault.TooLong → ReachesNone known me left left_after IsOneMore)
         → IfErr result IsOfTaking → (IsErrOf result load_fault.ReadFault → ⊥) → (IsErrOf result load_fault.FlashFault → ⊥)
         → IsOkAnd result IsIn
     taking_installs (Ok v) ends too_long of read flash = verdict_is v ends
     taking_installs (Err load_fault.TooLong) ends too_long of read flash =
         let hears = too_long refl in
-        not_open hears.taken hears.takes (omega (arith, within, hears.bytes)) hears.now
+        not_open hears.taken hears.takes (omega (arith, within, hears.bytes)) (hears.now.exact kept)
     taking_installs (Err load_fault.ReadFault) ends too_long of read flash = read refl
     taking_installs (Err load_fault.FlashFault) ends too_long of read flash = flash refl
     taking_installs (Err load_fault.Geometry) ends too_long of read flash = of

@@ -3,6 +3,8 @@ use Rattle.std.proofs.Common.{◌≡◌, ◌≢◌, ℕ, zero, suc, ◌≤◌, L
 use Rattle.std.specs.Prelude.{IsSome, is_some}
 use Rattle.std.specs.Option.{option_and_then}
 use Rattle.ts_section.specs.Events.{Heard}
+use Rattle.flash_stage.specs.Keeping.{IsPlanOfMessage}
+use Rattle.dsmcc_msg.specs.Control.{DiiFields, dii_message}
 use Rattle.ssu_group.specs.declared.group_plan.GroupPlan.{GroupPlan}
 use Rattle.ssu_group.specs.declared.module_plan.ModulePlan.{ModulePlan}
 use Rattle.ssu_group.specs.Carried.{missing_places, nothing_kept}
@@ -50,6 +52,7 @@ choice_back me item heard choice e stood is = record {
   group = sym (wanted_same me item heard e stood) ∙ is.group;
   software = is.software ∙ ap (offered_by choice.group) (groups_same me item heard stood);
   plan = is.plan;
+  message = sym (same_stays me item heard e) ∙ is.message;
 }
 
 pub choice_stands : (me : Receiver) (heard : List Heard) (choice : Choice) → beginnings me heard ≤ 16 → IsSome (level_7 me heard) → IsChoice me heard choice → IsStanding me heard choice
@@ -72,6 +75,25 @@ choice_fits me heard choice is =
     let all = choice.plan.planned.all_bytes in
     let bytes = ap (λ (ms : List ModulePlan). sum_by size_of ms) is.plan.modules ∙ laid_bytes is.dii.block_size 0 0 is.dii.modules in
     omega (arith, all, bytes, (not_refused is.dii me.bank_len is.usable).fits)
+
+-- the DII of its message
+pub chosen_read : (me : Receiver) (heard : List Heard) (message : List ℕ) (dii : DiiFields) → level_7 me heard ≡ Some message → chosen_dii me heard ≡ Some dii → dii_of message ≡ Some dii
+unfolding chosen_dii
+chosen_read me heard message dii now read = sym (ap (option_and_then dii_of) now) ∙ read
+
+pub dii_read : (message : List ℕ) (dii : DiiFields) → dii_of message ≡ Some dii → dii_message.of message ≡ Some dii
+unfolding dii_of
+dii_read message dii read = read
+
+-- and is that of its message
+pub plan_of_message : (me : Receiver) (heard : List Heard) (choice : Choice) → HasUsableDii me heard choice → level_7 me heard ≡ Some choice.message.items
+    → IsPlanOfMessage me.bank_len choice.message.items choice.plan
+plan_of_message me heard choice is now = record {
+  dii = is.dii;
+  reads = dii_read choice.message.items is.dii (chosen_read me heard choice.message.items is.dii now is.read);
+  usable = is.usable;
+  lays = is.plan;
+}
 
 -- where a choice begins, all its places are missing
 pub all_missing : (plan : GroupPlan) → 1 ≤ missing_places plan nothing_kept

@@ -54,6 +54,19 @@ module _ (plan : GroupPlan) (section : List ℕ) (d : DdbFields) (p : Place) (re
           others n (differs n is) ∙ filled n below
           ∙ sym (ap is_some (step plan section fills n) ∙ ap (λ (o : Option (List ℕ)). is_some (option_or (fills n) o)) (other n is) ∙ ap is_some (or_none (fills n)))
 
+  -- where others may be
+  pub includes_more : (has has' : ℕ → Bool) (fills : Fills) → has' p.number ≡ true → ((n : ℕ) → n ≢ p.number → has' n ≡ has n)
+      → ((n : ℕ) → n < plan.places → is_some (fills n) ≡ true → has n ≡ true)
+      → (n : ℕ) → n < plan.places → is_some (with_section plan section fills n) ≡ true → has' n ≡ true
+  includes_more has has' fills added others includes n below some = by_number (eqb p.number n) refl
+    where
+      by_number : (same : Bool) → eqb p.number n ≡ same → has' n ≡ true
+      by_number true is = ap has' (sym (eqb-true p.number n is)) ∙ added
+      by_number false is =
+          let same : with_section plan section fills n ≡ fills n =
+          step plan section fills n ∙ (ap (λ (o : Option (List ℕ)). option_or (fills n) o) (other n is) ∙ or_none (fills n)) in
+          others n (differs n is) ∙ includes n below (ap is_some (sym same) ∙ some)
+
   -- and their bytes
   pub text_more : (has : ℕ → Bool) (text text' : ℕ → List ℕ) (fills : Fills) → (has p.number ≡ false → text' p.number ≡ d.bytes) → ((n : ℕ) → has n ≡ true → text' n ≡ text n)
       → ((n : ℕ) → n < plan.places → has n ≡ is_some (fills n)) → ((n : ℕ) (b : List ℕ) → n < plan.places → fills n ≡ Some b → text n ≡ b)
@@ -87,3 +100,8 @@ pub text_filled : (plan : GroupPlan) (fills : Fills) (text : ℕ → List ℕ) �
 text_filled plan fills text holds n below is =
     let some = value_of (fills n) is in
     holds n some.0 below some.1 ∙ sym (ap (λ (o : Option (List ℕ)). unwrap_or o []) some.1)
+
+-- the places that are staged include those that are filled
+pub filled_includes : (plan : GroupPlan) (has : ℕ → Bool) (fills : Fills) → ((n : ℕ) → n < plan.places → has n ≡ is_some (fills n))
+    → (n : ℕ) → n < plan.places → is_some (fills n) ≡ true → has n ≡ true
+filled_includes plan has fills filled n below some = filled n below ∙ some

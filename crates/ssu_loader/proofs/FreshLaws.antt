@@ -1,10 +1,11 @@
 -- A loader that took no packet yet.
-use Rattle.std.proofs.Common.{◌≡◌, ℕ, ◌<◌, ◌≤◌, List, [], refl, sym, ap, subst, ◌∙◌, arith}
-use Rattle.std.specs.Prelude.{Result, Ok, Err}
+use Rattle.std.proofs.Common.{◌≡◌, ℕ, ◌-◌, ◌<◌, ◌≤◌, Bool, true, false, eqb, List, [], Option, Some, None, refl, sym, ap, subst, ◌∙◌, arith}
+use Rattle.std.specs.Prelude.{Result, Ok, Err, if◌then◌else◌}
 use Rattle.box_file.specs.declared.file.BoxFile.{BoxFile}
 use Rattle.flash_dev.specs.declared.device.Flash.{Ghosts as FlashGhosts}
 use Rattle.flash_bank.specs.Bank.{Fits, IsLent, block_of, current_of, geometry_of}
-use Rattle.flash_layout.specs.Layout.{Geometry}
+use Rattle.flash_kept.specs.SpareArea.{spare_area}
+use Rattle.flash_layout.specs.Layout.{Geometry, mark_count}
 use Rattle.flash_bank.specs.Sound.{IsWorn, number_in}
 use Rattle.flash_bank.specs.declared.bank.Bank.{Bank}
 use Rattle.flash_bank.specs.declared.fault.BankFault.{BankFault}
@@ -13,7 +14,7 @@ use Rattle.flash_bank.specs.declared.record.Record.{Record}
 use Rattle.flash_bank.proofs.SoundLemmas.{one_current}
 use Rattle.flash_stage.specs.declared.stage.Stage.{Ghosts as StageGhosts}
 use Rattle.ts_section.specs.Events.{Heard}
-use Rattle.route_tables.specs.Values.{Receiver}
+use Rattle.route_tables.specs.Values.{Receiver, nothing_open}
 use Rattle.ssu_route.specs.declared.choice.Choice.{Choice}
 use Rattle.ssu_route.specs.Choosing.{level_7}
 use Rattle.ssu_route.specs.Queries.{heard_by}
@@ -26,8 +27,13 @@ use Rattle.ssu_loader.specs.declared.loader.Loader.{Loader}
 use Rattle.ssu_loader.specs.Decisions.{IsOpen}
 use Rattle.ssu_loader.specs.Faults.{WhereNotWorn, of_bank}
 use Rattle.ssu_loader.specs.Loading.{Follows, IsFresh, bank_of, receiver_in}
+use Rattle.ssu_loader.specs.Opening.{most_kept, opening_by, opening_of}
+use Rattle.ssu_loader.specs.Remaining.{StagesLast}
+use Rattle.ssu_loader.specs.Verdicts.{IsUnfilled}
 use Rattle.ssu_loader.proofs.ChoiceLaws.{no_choice}
 use Rattle.ssu_loader.proofs.DecisionLaws.{open_none}
+use Rattle.ssu_loader.proofs.RemainingLaws.{opening_stages}
+use Rattle.ssu_loader.proofs.UnfilledLaws.{unfilled_none}
 
 none_chosen : (me : Receiver) (choice : Choice) → IsChoice me (heard_by me []) choice → ⊥
 none_chosen me choice is = no_choice me (heard_by me []) choice (ap (level_7 me) (heard_none me) ∙ level_7-none me) is
@@ -38,32 +44,58 @@ none_begun me = ap (beginnings me) (heard_none me) ∙ beginnings-none me
 none_decided : (me : Receiver) → IsOpen me (heard_by me [])
 none_decided me = subst (λ (items : List Heard). IsOpen me items) (sym (heard_none me)) (open_none me)
 
-pub fresh_follows : {S F : Type 0} (s : StageGhosts S) (f : FlashGhosts F) (file : BoxFile) (loader : Loader S) (flash : F) → IsFresh s (receiver_in file loader) loader
-    → IsLent f.tells f.contents f.block_count f.block_len (bank_of loader) flash → (current_of (bank_of loader)).number < 4294967295 → Follows s f (receiver_in file loader) [] loader flash
-fresh_follows s f file loader flash fresh lent next =
-    let me = receiver_in file loader in
+-- ---- what it found at the opening
+
+opens_nothing : (keeps : Bool) (g : Geometry) (current : Record) (contents : List ℕ) → keeps ≡ false → opening_of keeps g current contents ≡ nothing_open
+opens_nothing keeps g current contents never = ap (λ (k : Bool). opening_of k g current contents) never
+
+opens_most : (keeps : Bool) (g : Geometry) (current : Record) (contents : List ℕ) → keeps ≡ true → (opening_of keeps g current contents).most ≡ most_kept g current
+opens_most keeps g current contents always = ap (λ (k : Bool). (opening_of k g current contents).most) always ∙ by_layout (eqb current.layout 2) refl
+  where
+    by_layout : (b : Bool) → eqb current.layout 2 ≡ b → (opening_by (eqb current.layout 2) (spare_area g (1 - current.bank) current.number) contents).most ≡ (if eqb current.layout 2 then Some (mark_count g) else None)
+    by_layout true e = rw e refl
+    by_layout false e = rw e refl
+
+pub fresh_follows : {S F : Type 0} (s : StageGhosts S) (f : FlashGhosts F) (file : BoxFile) (loader : Loader S) (contents : List ℕ) (flash : F)
+    → IsFresh s (receiver_in s.KEEPS file loader contents) loader → IsLent f.tells f.contents f.block_count f.block_len (bank_of loader) flash → (current_of (bank_of loader)).number < 4294967295
+    → (f.tells → f.contents flash ≡ contents) → Follows s f (receiver_in s.KEEPS file loader contents) [] loader flash
+fresh_follows s f file loader contents flash fresh lent next told =
+    let me = receiver_in s.KEEPS file loader contents in
+    let bank = bank_of loader in
     let few : loader.collector.choices ≤ 16 = let none = fresh.none in omega (arith, none) in
     let counted : loader.collector.choices ≡ beginnings me (heard_by me []) = fresh.none ∙ sym (none_begun me) in
+    let nothing : level_7 me (heard_by me []) ≡ None = ap (level_7 me) (heard_none me) ∙ level_7-none me in
     record {
       hears = fresh.hears;
       collects = record {
         stands = fresh.stands;
         gathers = record {
-          opens = refl;
+          opens = opens_nothing s.KEEPS (geometry_of bank) (current_of bank) contents;
+          most = opens_most s.KEEPS (geometry_of bank) (current_of bank) contents;
           len = refl;
           runs = refl;
           lent = lent;
           made_for = fresh.made_for;
           next_fits = next;
-          knows = record {
-            undecided = none_decided me;
+          hears = record {
+            unfilled = subst (λ (items : List Heard). IsUnfilled me items) (sym (heard_none me)) (unfilled_none me);
             counted = counted;
             few = few;
             planned = λ choice is. absurd (none_chosen me choice is);
+            includes = λ choice is. absurd (none_chosen me choice is);
+          };
+          knows = λ known. record {
+            undecided = none_decided me;
             filled = λ choice is. absurd (none_chosen me choice is);
           };
           works = λ choice is. absurd (none_chosen me choice is);
+          message = λ keeps message e. let both : None ≡ Some message = sym nothing ∙ e in absurd cc;
           told = λ tells choice is. absurd (none_chosen me choice is);
+          staged = λ keeps tells.
+              subst (λ (items : List Heard). StagesLast me items (geometry_of bank) (f.contents flash)) (sym (heard_none me))
+              (opening_stages me bank (f.contents flash) (lent.fits tells)
+              (ap (λ (k : Bool). opening_of k (geometry_of bank) (current_of bank) contents) keeps
+              ∙ ap (opening_of true (geometry_of bank) (current_of bank)) (sym (told tells))));
           begun = λ staged some. let none = fresh.none in absurd (omega (arith, none, some));
         };
       };

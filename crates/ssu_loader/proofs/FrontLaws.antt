@@ -25,7 +25,7 @@ pub record Ends {A : Type 0} (front whole : List A) : Type 0 where
   pub is : whole ≡ front ++ later
 
 -- Before what was first come newer items.
-record Begins {A : Type 0} (first whole : List A) : Type 0 where
+pub record Begins {A : Type 0} (first whole : List A) : Type 0 where
   pub newer : List A
   pub is : whole ≡ newer ++ first
 
@@ -83,6 +83,9 @@ beginnings_before : (me : Receiver) (newer earlier : List Heard) → beginnings 
 unfolding beginnings
 beginnings_before me [] earlier none = none
 beginnings_before me (item ∷ newer) earlier none = beginnings_before me newer earlier (omega (arith, none))
+
+pub packet_later : (me : Receiver) (packet : List ℕ) (ps : List (List ℕ)) → Begins (heard_by me ps) (heard_by me (packet ∷ ps))
+packet_later me packet ps = heard_later me (packet ∷ []) ps
 
 pub none_before : (me : Receiver) (packet : List ℕ) (ps : List (List ℕ)) → beginnings me (heard_by me (packet ∷ ps)) ≡ 0 → beginnings me (heard_by me ps) ≡ 0
 none_before me packet ps none =

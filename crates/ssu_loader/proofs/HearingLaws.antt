@@ -11,7 +11,6 @@ use Rattle.flash_bank.specs.Bank.{Fits, IsLent, current_of, geometry_of}
 use Rattle.flash_layout.specs.Layout.{Geometry}
 use Rattle.flash_bank.specs.Leaving.{Installs, KeepsBoot}
 use Rattle.flash_bank.specs.Record.{next_record}
-use Rattle.flash_bank.proofs.BankLemmas.{begun_gone}
 use Rattle.flash_bank.proofs.LeavingLemmas.{keeps_boot_joined, keeps_boot_same}
 use Rattle.flash_bank.specs.declared.bank.Bank.{Bank}
 use Rattle.flash_bank.specs.declared.record.Record.{Record}
@@ -28,16 +27,19 @@ use Rattle.ssu_route.proofs.Following.{after_one_more}
 use Rattle.ssu_route.specs.declared.choice.Choice.{Choice}
 use Rattle.ssu_loader.specs.declared.collector.Collector.{Collector}
 use Rattle.ssu_loader.specs.Collecting.{BeginsTooMany, Collects, IsUsable, StopsBefore}
-use Rattle.ssu_loader.specs.Decisions.{IsOpen, Reaches, TooMany, Whole, Wrong}
+use Rattle.ssu_loader.specs.Decisions.{IsOpen, TooMany, Whole, Wrong}
 use Rattle.ssu_loader.specs.Leaving.{Ends, GoesOn, IfBadModule, IfUnsettled, InstallsChosen, SectionsLeave}
-use Rattle.ssu_loader.specs.Storing.{HasNoPrev}
+use Rattle.ssu_loader.specs.Starting.{KnowsKept}
 use Rattle.ssu_loader.proofs.KeepingLaws.{installs_joined, installs_moved, leaves_moved}
+use Rattle.ssu_loader.specs.Life.{HoldsHeard}
+use Rattle.ssu_loader.proofs.HoldingLaws.{holds_itself}
 use Rattle.ssu_loader.proofs.LeftLaws.{left_now}
+use Rattle.ssu_loader.proofs.StepLaws.{holds_joined, holds_more}
 use Rattle.ssu_route.specs.Windows.{beginnings, change_at, is_one_too_many}
-use Rattle.ssu_loader.specs.Verdicts.{IsFilled, IsSeen}
+use Rattle.ssu_loader.specs.Verdicts.{IsFilled, IsSeen, IsTooMany, IsUnfilled}
 use Rattle.ssu_loader.proofs.ChoiceLaws.{began_before, begun_more}
-use Rattle.ssu_loader.proofs.DecisionLaws.{decided_now, reaches_more}
-use Rattle.ssu_loader.proofs.WrongLaws.{wrong_began}
+use Rattle.ssu_loader.proofs.DecisionLaws.{reaches_more}
+use Rattle.ssu_loader.proofs.UnfilledLaws.{many_last, unfilled_few, unfilled_front}
 
 -- ---- more sections come
 
@@ -94,42 +96,56 @@ after_rest pid sections k before =
     ∙ append_assoc (reverse (map (heard_on pid) (drop k sections))) (reverse (map (heard_on pid) (take k sections))) before
 
 -- Where the first of them would begin a choice too many, that is decided by it.
-first_decides : (me : Receiver) (pid n : ℕ) (each : List (List ℕ)) (heard : List Heard) → 1 ≤ n → BeginsTooMany me pid each heard → IsOpen me heard → Reaches me (after_all pid (take n each) heard) TooMany
-unfolding Reaches
-first_decides me pid n [] heard some many undecided = absurd many
-first_decides me pid zero (first ∷ others) heard some many undecided = absurd (omega (arith, some))
-first_decides me pid (suc n) (first ∷ others) heard some many undecided =
-    let now : Reaches me (heard_on pid first ∷ heard) TooMany = inr (undecided, many) in
-    subst (λ (items : List Heard). Reaches me items TooMany) (sym (after_rest pid (first ∷ take n others) 1 heard))
-    (reaches_more me (reverse (map (heard_on pid) (take n others))) (heard_on pid first ∷ heard) TooMany now)
+first_decides : (me : Receiver) (pid n : ℕ) (each : List (List ℕ)) (heard : List Heard) → 1 ≤ n → BeginsTooMany me pid each heard → IsUnfilled me (after_all pid (take n each) heard) → ⊥
+first_decides me pid n [] heard some many unfilled = many
+first_decides me pid zero (first ∷ others) heard some many unfilled = absurd (omega (arith, some))
+first_decides me pid (suc n) (first ∷ others) heard some many unfilled =
+    unfilled_few me (heard_on pid first) heard
+    (unfilled_front me (reverse (map (heard_on pid) (take n others))) (heard_on pid first ∷ heard)
+    (subst (λ (items : List Heard). IsUnfilled me items) (after_rest pid (first ∷ take n others) 1 heard) unfilled)) many
 
 -- And then it is the next section, where nothing is decided by those so far.
 first_is_next : (me : Receiver) (pid k : ℕ) (each : List (List ℕ)) (section : List ℕ) (heard : List Heard) → slice_get each k ≡ Some section → BeginsTooMany me pid each heard
-    → IsOpen me heard → IsOpen me (after_all pid (take k each) heard) → IsTrue (is_one_too_many me (heard_on pid section ∷ after_all pid (take k each) heard))
-first_is_next me pid k [] section heard at many before so_far = absurd many
-first_is_next me pid zero (first ∷ others) section heard at many before so_far =
+    → IsUnfilled me (after_all pid (take k each) heard) → IsTrue (is_one_too_many me (heard_on pid section ∷ after_all pid (take k each) heard))
+first_is_next me pid k [] section heard at many so_far = absurd many
+first_is_next me pid zero (first ∷ others) section heard at many so_far =
     let same : first ≡ section = cc in
     subst (λ (s : List ℕ). IsTrue (is_one_too_many me (heard_on pid s ∷ heard))) same many
-first_is_next me pid (suc k) (first ∷ others) section heard at many before so_far =
-    absurd (so_far TooMany (first_decides me pid (suc k) (first ∷ others) heard (omega arith) many before))
+first_is_next me pid (suc k) (first ∷ others) section heard at many so_far =
+    absurd (first_decides me pid (suc k) (first ∷ others) heard (omega arith) many so_far)
 
-filled_more : (me : Receiver) (later heard : List Heard) (choice : Choice) → IsFilled me heard choice → IsFilled me (later ++ heard) choice
-filled_more me later heard choice is = record {
-  later = later ++ is.later;
-  item = is.item;
-  earlier = is.earlier;
-  parts = ap (λ (items : List Heard). later ++ items) is.parts ∙ sym (append_assoc later is.later (is.item ∷ is.earlier));
-  undecided = is.undecided;
-  standing = is.standing;
-  filled = is.filled;
-}
+module _ (known : Type 0) (me : Receiver) (later heard : List Heard) where
+  parts_more : (newer : List Heard) (item : Heard) (earlier : List Heard) → heard ≡ newer ++ item ∷ earlier → later ++ heard ≡ (later ++ newer) ++ item ∷ earlier
+  parts_more newer item earlier parts = ap (λ (items : List Heard). later ++ items) parts ∙ sym (append_assoc later newer (item ∷ earlier))
 
-pub seen_more : (me : Receiver) (later heard : List Heard) (v : Verdict) → IsSeen me heard (Some v) → IsSeen me (later ++ heard) (Some v)
-seen_more me later heard (Installed chosen) seen = (seen.0, (filled_more me later heard seen.0 seen.1.0, seen.1.1))
-seen_more me later heard (BadModule id want found) seen = (seen.0, (filled_more me later heard seen.0 seen.1.0, seen.1.1))
-seen_more me later heard Unsettled seen = reaches_more me later heard TooMany seen
-seen_more me later heard (Nothing level) seen = absurd seen
-seen_more me later heard (Incomplete chosen count) seen = absurd seen
+  filled_more : (choice : Choice) → IsFilled known me heard choice → IsFilled known me (later ++ heard) choice
+  filled_more choice is = record {
+    later = later ++ is.later;
+    item = is.item;
+    earlier = is.earlier;
+    parts = parts_more is.later is.item is.earlier is.parts;
+    undecided = is.undecided;
+    standing = is.standing;
+    filled = is.filled;
+  }
+
+  many_more : IsTooMany known me heard → IsTooMany known me (later ++ heard)
+  many_more is = record {
+    later = later ++ is.later;
+    item = is.item;
+    earlier = is.earlier;
+    parts = parts_more is.later is.item is.earlier is.parts;
+    undecided = is.undecided;
+    too_many = is.too_many;
+    reached = λ kept. reaches_more me later heard TooMany (is.reached kept);
+  }
+
+  pub seen_more : (v : Verdict) → IsSeen known me heard (Some v) → IsSeen known me (later ++ heard) (Some v)
+  seen_more (Installed chosen) seen = (seen.0, (filled_more seen.0 seen.1.0, seen.1.1))
+  seen_more (BadModule id want found) seen = (seen.0, (filled_more seen.0 seen.1.0, seen.1.1))
+  seen_more Unsettled seen = many_more seen
+  seen_more (Nothing level) seen = absurd seen
+  seen_more (Incomplete chosen count) seen = absurd seen
 
 -- where nothing is decided, nothing is installed
 pub leaves_open : (me : Receiver) (heard : List Heard) (bank : Bank) (x y : List ℕ) → IsOpen me heard → SectionsLeave me heard bank x y → KeepsBoot (geometry_of bank) x y
@@ -153,6 +169,10 @@ module _ {S F : Type 0} (s : StageGhosts S) (f : FlashGhosts F) where
     pub lent : IsLent f.tells f.contents f.block_count f.block_len new.bank now
     pub leaves : f.tells → KeepsBoot (geometry_of old.bank) (f.contents before) (f.contents now)
     pub left : f.tells → LeavesOnly f.moment f.left_since before now (KeepsBoot (geometry_of old.bank) (f.contents before))
+    pub holds : f.tells → (me : Receiver) (heard : List Heard) → Collects s f me heard old before
+        → HoldsHeard (geometry_of old.bank) me (after_all pid (take k each) heard) (f.contents before) (f.contents now)
+    pub holds_left : f.tells → (me : Receiver) (heard : List Heard) → Collects s f me heard old before
+        → LeavesOnly f.moment f.left_since before now (HoldsHeard (geometry_of old.bank) me (after_all pid (take k each) heard) (f.contents before))
     pub blocks : f.block_count now ≡ f.block_count before
     pub block_size : f.block_len now ≡ f.block_len before
     pub later : f.faults before ≤ f.faults now
@@ -167,6 +187,9 @@ module _ {S F : Type 0} (s : StageGhosts S) (f : FlashGhosts F) where
     lent = usable.collects.gathers.lent;
     leaves = λ tells. keeps_boot_same (geometry_of c.bank) (f.contents flash) (usable.collects.gathers.lent.fits tells).sound;
     left = λ tells. left_now f only flash (KeepsBoot (geometry_of c.bank) (f.contents flash)) (keeps_boot_same (geometry_of c.bank) (f.contents flash) (usable.collects.gathers.lent.fits tells).sound);
+    holds = λ tells me heard col. holds_itself (geometry_of c.bank) me (after_all pid (take 0 each) heard) (f.contents flash);
+    holds_left = λ tells me heard col.
+        left_now f only flash (HoldsHeard (geometry_of c.bank) me (after_all pid (take 0 each) heard) (f.contents flash)) (holds_itself (geometry_of c.bank) me (after_all pid (take 0 each) heard) (f.contents flash));
     blocks = refl;
     block_size = refl;
     later = omega arith;
@@ -177,15 +200,39 @@ module _ {S F : Type 0} (s : StageGhosts S) (f : FlashGhosts F) where
     abbrev earlier : List Heard → List Heard
     earlier heard = after_all pid (take k each) heard
 
+    abbrev next : List Heard → List Heard
+    next heard = heard_on pid section ∷ earlier heard
+
+    -- of places no more is held with the next section than was, but those that were heard
+    holds_next : f.tells → (me : Receiver) (heard : List Heard) → Collects s f me heard old before → (y : List ℕ) → HoldsHeard (geometry_of mid.bank) me (next heard) (f.contents between) y
+        → HoldsHeard (geometry_of old.bank) me (next heard) (f.contents before) y
+    holds_next tells me heard col y call =
+        holds_joined (geometry_of old.bank) me (next heard) (f.contents before) (f.contents between) y
+        (holds_more (geometry_of old.bank) me (heard_on pid section ∷ []) (earlier heard) (f.contents before) (f.contents between) (sofar.holds tells me heard col))
+        (subst (λ (g : Geometry). HoldsHeard g me (next heard) (f.contents between) y) sofar.bank.geometry call)
+
+    holds_next_left : f.tells → (me : Receiver) (heard : List Heard) → Collects s f me heard old before
+        → LeavesOnly f.moment f.left_since between now (HoldsHeard (geometry_of mid.bank) me (next heard) (f.contents between))
+        → LeavesOnly f.moment f.left_since before now (HoldsHeard (geometry_of old.bank) me (next heard) (f.contents before))
+    holds_next_left tells me heard col call =
+        joined f.moment f.left_since before between now (HoldsHeard (geometry_of old.bank) me (next heard) (f.contents before))
+        (weaker f.moment f.left_since before between (HoldsHeard (geometry_of old.bank) me (earlier heard) (f.contents before)) (HoldsHeard (geometry_of old.bank) me (next heard) (f.contents before))
+        (λ y is. holds_more (geometry_of old.bank) me (heard_on pid section ∷ []) (earlier heard) (f.contents before) y is) (sofar.holds_left tells me heard col))
+        (weaker f.moment f.left_since between now (HoldsHeard (geometry_of mid.bank) me (next heard) (f.contents between)) (HoldsHeard (geometry_of old.bank) me (next heard) (f.contents before))
+        (holds_next tells me heard col) call)
+
     -- the next section was heard, and nothing is decided
     pub heard_more : ((me : Receiver) (heard : List Heard) → Collects s f me heard mid between → Collects s f me (heard_on pid section ∷ heard) new now)
         → (f.tells → (me : Receiver) (heard : List Heard) → Collects s f me heard mid between → KeepsBoot (geometry_of mid.bank) (f.contents between) (f.contents now))
         → (f.tells → (me : Receiver) (heard : List Heard) → Collects s f me heard mid between
         → LeavesOnly f.moment f.left_since between now (SectionsLeave me (heard_on pid section ∷ heard) mid.bank (f.contents between)))
         → ((me : Receiver) (heard : List Heard) → Collects s f me heard mid between → beginnings me (heard_on pid section ∷ heard) ≡ 0 → now ≡ between)
+        → (f.tells → (me : Receiver) (heard : List Heard) → Collects s f me heard mid between → HoldsHeard (geometry_of mid.bank) me (heard_on pid section ∷ heard) (f.contents between) (f.contents now))
+        → (f.tells → (me : Receiver) (heard : List Heard) → Collects s f me heard mid between
+        → LeavesOnly f.moment f.left_since between now (HoldsHeard (geometry_of mid.bank) me (heard_on pid section ∷ heard) (f.contents between)))
         → SameBank mid.bank new.bank → IsLent f.tells f.contents f.block_count f.block_len new.bank now → f.block_count now ≡ f.block_count between → f.block_len now ≡ f.block_len between → f.faults between ≤ f.faults now
         → HeardSoFar pid each (k + 1) old before new now
-    heard_more collects leaves left untouched bank lent blocks block_size later = record {
+    heard_more collects leaves left untouched holds holds_left bank lent blocks block_size later = record {
       collects = λ me heard col. subst (λ (items : List Heard). Collects s f me items new now) (sym (after_one_more pid each k section heard at)) (collects me (earlier heard) (sofar.collects me heard col));
       untouched = λ me heard col none.
           let items = earlier heard in
@@ -194,8 +241,8 @@ module _ {S F : Type 0} (s : StageGhosts S) (f : FlashGhosts F) where
           untouched me items (sofar.collects me heard col) last ∙ sofar.untouched me heard col (omega (arith, fewer, last));
       alone = λ me heard col many.
           let after = collects me (earlier heard) (sofar.collects me heard col) in
-          let reached = first_decides me pid (k + 1) each heard (omega arith) many col.gathers.knows.undecided in
-          absurd (after.gathers.knows.undecided TooMany (subst (λ (items : List Heard). Reaches me items TooMany) (after_one_more pid each k section heard at) reached));
+          absurd (first_decides me pid (k + 1) each heard (omega arith) many
+          (subst (λ (items : List Heard). IsUnfilled me items) (sym (after_one_more pid each k section heard at)) after.gathers.hears.unfilled));
       bank = banks_joined old.bank mid.bank new.bank sofar.bank bank;
       lent = lent;
       leaves = λ tells.
@@ -210,8 +257,14 @@ module _ {S F : Type 0} (s : StageGhosts S) (f : FlashGhosts F) where
           (weaker f.moment f.left_since between now (SectionsLeave me (heard_on pid section ∷ earlier usable.heard) mid.bank (f.contents between)) (KeepsBoot (geometry_of old.bank) (f.contents before))
           (λ y is. keeps_boot_joined (geometry_of old.bank) (f.contents before) (f.contents between) y (sofar.leaves tells)
           (leaves_moved old.bank mid.bank (f.contents between) y sofar.bank
-          (leaves_open me (heard_on pid section ∷ earlier usable.heard) mid.bank (f.contents between) y after.gathers.knows.undecided is)))
+          (leaves_open me (heard_on pid section ∷ earlier usable.heard) mid.bank (f.contents between) y (after.gathers.knows (inr tells)).undecided is)))
           (left tells me (earlier usable.heard) col));
+      holds = λ tells me heard col.
+          subst (λ (items : List Heard). HoldsHeard (geometry_of old.bank) me items (f.contents before) (f.contents now)) (sym (after_one_more pid each k section heard at))
+          (holds_next tells me heard col (f.contents now) (holds tells me (earlier heard) (sofar.collects me heard col)));
+      holds_left = λ tells me heard col.
+          subst (λ (items : List Heard). LeavesOnly f.moment f.left_since before now (HoldsHeard (geometry_of old.bank) me items (f.contents before))) (sym (after_one_more pid each k section heard at))
+          (holds_next_left tells me heard col (holds_left tells me (earlier heard) (sofar.collects me heard col)));
       blocks = blocks ∙ sofar.blocks;
       block_size = block_size ∙ sofar.block_size;
       later = let a = sofar.later in omega (arith, a, later);
@@ -223,6 +276,21 @@ module _ {S F : Type 0} (s : StageGhosts S) (f : FlashGhosts F) where
 
     all_is : (heard : List Heard) → after_all pid each heard ≡ rest ++ (heard_on pid section ∷ earlier heard)
     all_is heard = after_rest pid each (k + 1) heard ∙ ap (λ (items : List Heard). rest ++ items) (after_one_more pid each k section heard at)
+
+    -- what is held with the next section, whether or not it decides
+    pub heard_holds : f.tells → (me : Receiver) (heard : List Heard) → Collects s f me heard old before → (y : List ℕ) → HoldsHeard (geometry_of mid.bank) me (next heard) (f.contents between) y
+        → HoldsHeard (geometry_of old.bank) me (after_all pid each heard) (f.contents before) y
+    heard_holds tells me heard col y call =
+        subst (λ (items : List Heard). HoldsHeard (geometry_of old.bank) me items (f.contents before) y) (sym (all_is heard))
+        (holds_more (geometry_of old.bank) me rest (next heard) (f.contents before) y (holds_next tells me heard col y call))
+
+    pub heard_holds_left : f.tells → (me : Receiver) (heard : List Heard) → Collects s f me heard old before
+        → LeavesOnly f.moment f.left_since between now (HoldsHeard (geometry_of mid.bank) me (next heard) (f.contents between))
+        → LeavesOnly f.moment f.left_since before now (HoldsHeard (geometry_of old.bank) me (after_all pid each heard) (f.contents before))
+    heard_holds_left tells me heard col call =
+        weaker f.moment f.left_since before now (HoldsHeard (geometry_of old.bank) me (next heard) (f.contents before)) (HoldsHeard (geometry_of old.bank) me (after_all pid each heard) (f.contents before))
+        (λ y is. subst (λ (items : List Heard). HoldsHeard (geometry_of old.bank) me items (f.contents before) y) (sym (all_is heard)) (holds_more (geometry_of old.bank) me rest (next heard) (f.contents before) y is))
+        (holds_next_left tells me heard col call)
 
     -- before any choice began, the flash is not called
     pub heard_untouched : ((me : Receiver) (heard : List Heard) → Collects s f me heard mid between → beginnings me (heard_on pid section ∷ heard) ≡ 0 → now ≡ between)
@@ -240,17 +308,18 @@ module _ {S F : Type 0} (s : StageGhosts S) (f : FlashGhosts F) where
         → (me : Receiver) (heard : List Heard) → Collects s f me heard old before → BeginsTooMany me pid each heard → now ≡ before
     heard_alone same me heard col many =
         let so_far = sofar.collects me heard col in
-        same me (earlier heard) so_far (first_is_next me pid k each section heard at many col.gathers.knows.undecided so_far.gathers.knows.undecided)
+        same me (earlier heard) so_far (first_is_next me pid k each section heard at many so_far.gathers.hears.unfilled)
         ∙ sofar.alone me heard col many
 
     -- what is seen at the next section
-    pub heard_seen : (me : Receiver) (heard : List Heard) (answer : Option Verdict) (v : Verdict) → answer ≡ Some v → IsSeen me (heard_on pid section ∷ earlier heard) answer → IsSeen me (after_all pid each heard) (Some v)
+    pub heard_seen : (me : Receiver) (heard : List Heard) (answer : Option Verdict) (v : Verdict) → answer ≡ Some v → IsSeen (KnowsKept s f) me (heard_on pid section ∷ earlier heard) answer
+        → IsSeen (KnowsKept s f) me (after_all pid each heard) (Some v)
     heard_seen me heard answer v is seen =
-        subst (λ (items : List Heard). IsSeen me items (Some v)) (sym (all_is heard))
-        (seen_more me rest (heard_on pid section ∷ earlier heard) v (subst (λ (o : Option Verdict). IsSeen me (heard_on pid section ∷ earlier heard) o) is seen))
+        subst (λ (items : List Heard). IsSeen (KnowsKept s f) me items (Some v)) (sym (all_is heard))
+        (seen_more (KnowsKept s f) me rest (heard_on pid section ∷ earlier heard) v (subst (λ (o : Option Verdict). IsSeen (KnowsKept s f) me (heard_on pid section ∷ earlier heard) o) is seen))
 
     -- where the next section brings one choice too many, the flash is as it was
-    pub heard_stops : (me : Receiver) (heard : List Heard) → Collects s f me heard old before → (v : Verdict) → IsSeen me (heard_on pid section ∷ earlier heard) (Some v)
+    pub heard_stops : (me : Receiver) (heard : List Heard) → Collects s f me heard old before → (v : Verdict) → IsSeen (KnowsKept s f) me (heard_on pid section ∷ earlier heard) (Some v)
         → (IsTrue (is_one_too_many me (heard_on pid section ∷ earlier heard)) → now ≡ between) → IfUnsettled (Some v) (StopsBefore s f me (after_all pid each heard) now)
     heard_stops me heard col (Installed chosen) seen same = tt
     heard_stops me heard col (Nothing level) seen same = tt
@@ -258,7 +327,7 @@ module _ {S F : Type 0} (s : StageGhosts S) (f : FlashGhosts F) where
     heard_stops me heard col (BadModule id want found) seen same = tt
     heard_stops me heard col Unsettled seen same =
         let before_it = sofar.collects me heard col in
-        let many = decided_now me (heard_on pid section) (earlier heard) TooMany before_it.gathers.knows.undecided seen in
+        let many = many_last me (heard_on pid section) (earlier heard) before_it.gathers.hears.unfilled seen.later seen.item seen.earlier seen.parts seen.too_many in
         record {
           later = rest;
           item = heard_on pid section;
@@ -269,20 +338,10 @@ module _ {S F : Type 0} (s : StageGhosts S) (f : FlashGhosts F) where
           collects = subst (λ (flash : F). Collects s f me (earlier heard) mid flash) (sym (same many)) before_it;
         }
 
-    -- where a module is wrong with the next section, what boot took before is gone
-    pub heard_no_prev : s.IN_BANK ≡ true → f.tells → (me : Receiver) (heard : List Heard) → Collects s f me heard old before → (v : Verdict)
-        → Ends me (heard_on pid section ∷ earlier heard) mid.bank (f.contents between) (f.contents now) v → IfBadModule (Some v) (HasNoPrev (geometry_of old.bank) (f.contents now))
-    heard_no_prev staged tells me heard col (Installed chosen) ends = tt
-    heard_no_prev staged tells me heard col (Nothing level) ends = tt
-    heard_no_prev staged tells me heard col (Incomplete chosen count) ends = tt
-    heard_no_prev staged tells me heard col Unsettled ends = tt
-    heard_no_prev staged tells me heard col (BadModule id want found) ends =
-        let before_it = sofar.collects me heard col in
-        let wrong = decided_now me (heard_on pid section) (earlier heard) (Wrong id want found) before_it.gathers.knows.undecided ends.0 in
-        let began = wrong_began me (heard_on pid section) (earlier heard) id want found before_it.gathers.opens wrong in
-        let count = before_it.gathers.knows.counted in
-        let gone = begun_gone mid.bank (f.contents between) (before_it.gathers.lent.fits tells) (before_it.gathers.begun staged (omega (arith, count, began))) in
-        subst (λ (g : Geometry). HasNoPrev g (f.contents now)) sofar.bank.geometry (λ b from. gone b (ends.1.keeps.prev b from))
+    -- what holds where a module is wrong with the next section
+    pub heard_wrong : (P : Geometry → Type 0) (answer : Option Verdict) (v : Verdict) → answer ≡ Some v → IfBadModule answer (P (geometry_of mid.bank)) → IfBadModule (Some v) (P (geometry_of old.bank))
+    heard_wrong P answer v is wrong =
+        subst (λ (g : Geometry). IfBadModule (Some v) (P g)) sofar.bank.geometry (subst (λ (o : Option Verdict). IfBadModule o (P (geometry_of mid.bank))) is wrong)
 
     module _ (tells : f.tells) (me : Receiver) (heard : List Heard) where
       -- a decision at the next section

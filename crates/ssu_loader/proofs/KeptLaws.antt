@@ -14,7 +14,7 @@ use Rattle.ssu_route.specs.Choosing.{level_7}
 use Rattle.ssu_route.specs.Offers.{dii_of, same_message}
 use Rattle.ssu_route.specs.Queries.{carousel_pid}
 use Rattle.ssu_route.specs.Windows.{change_at, window}
-use Rattle.ssu_route.proofs.Choices.{carousel_stands, chosen_some, lost_none, same_stays, section_joins, section_passes, window_empty}
+use Rattle.ssu_route.proofs.Choices.{carousel_stands, chosen_some, level_7-none, lost_none, same_stays, section_joins, section_passes, window_empty}
 use Rattle.ssu_loader.specs.Opening.{KeepsNothing, by_change, earlier_windows, fills_at, is_within, keeps_at, kept, last_message, places_in, staged_still}
 
 or_or : {A : Type 0} (a b c : Option A) → option_or (option_or a b) c ≡ option_or a (option_or b c)
@@ -134,11 +134,35 @@ fills_passes me item heard plan e passes = (λ i. λ n. at_place n i)
         ap (λ (o : Option (List ℕ)). option_or o (filling plan (window me (item ∷ heard)) n)) (kept_same me item heard plan n e)
         ∙ ap (λ (w : List (List ℕ)). option_or (kept me heard plan n) (filling plan w n)) passes
 
--- ---- where the flash kept nothing
+-- ---- a group that is not kept
 
 and_no : (a : Bool) → (a && false) ≡ false
 and_no true = refl
 and_no false = refl
+
+module _ (me : Receiver) (message : List ℕ) (few : is_within me.opening.most (places_in (dii_of message)) ≡ false) where
+  not_again : (item : Heard) (heard : List Heard) → level_7 me (item ∷ heard) ≡ Some message → keeps_at me item heard ≡ false
+  unfolding keeps_at
+  not_again item heard now =
+      ap (λ (o : Option (List ℕ)). same_message (last_message me heard) (level_7 me (item ∷ heard)) && is_within me.opening.most (places_in (option_and_then dii_of o))) now
+      ∙ ap (λ (b : Bool). same_message (last_message me heard) (level_7 me (item ∷ heard)) && b) few
+      ∙ and_no (same_message (last_message me heard) (level_7 me (item ∷ heard)))
+
+  not_kept_at : (item : Heard) (heard : List Heard) (plan : GroupPlan) (n : ℕ) → level_7 me (item ∷ heard) ≡ Some message → (level_7 me heard ≡ Some message → kept me heard plan n ≡ None)
+      → (c : Change) → change_at me item heard ≡ c → kept me (item ∷ heard) plan n ≡ None
+  not_kept_at item heard plan n now before Same e = kept_same me item heard plan n e ∙ before (sym (same_stays me item heard e) ∙ now)
+  not_kept_at item heard plan n now before Chosen e = kept_none me item heard plan n e (not_again item heard now)
+  not_kept_at item heard plan n now before Lost e = let none = lost_none me item heard e in absurd cc
+
+  -- Of such a group nothing is kept.
+  pub not_kept : (heard : List Heard) (plan : GroupPlan) (n : ℕ) → level_7 me heard ≡ Some message → kept me heard plan n ≡ None
+  not_kept [] plan n now = let none = level_7-none me in absurd cc
+  not_kept (item ∷ heard) plan n now = not_kept_at item heard plan n now (not_kept heard plan n) (change_at me item heard) refl
+
+  pub not_kept_fills : (heard : List Heard) (plan : GroupPlan) (n : ℕ) → level_7 me heard ≡ Some message → fills_at me heard plan n ≡ filling plan (window me heard) n
+  not_kept_fills heard plan n now = ap (λ (o : Option (List ℕ)). option_or o (filling plan (window me heard) n)) (not_kept heard plan n now)
+
+-- ---- where the flash kept nothing
 
 module _ (me : Receiver) (opens : KeepsNothing me) where
   no_keeping : (item : Heard) (heard : List Heard) → keeps_at me item heard ≡ false

@@ -29,18 +29,18 @@ packet_alone me packet ps each pid own is many =
 -- ---- a group that is carried whole
 
 -- the answer, where that is what is decided
-pub answer_carried : (me : Receiver) (heard : List Heard) (bank : Bank) (x y : List ℕ) (chosen : Chosen) (image : List ℕ) (answer : Option Verdict) → Reaches me heard (Whole chosen image)
-    → IsSeen me heard answer → GoesOn me heard bank x y answer → answer ≡ Some (Installed chosen)
-answer_carried me heard bank x y chosen image None reached seen goes = absurd (seen (Whole chosen image) reached)
-answer_carried me heard bank x y chosen image (Some (Installed c)) reached seen goes =
+pub answer_carried : (known : Type 0) → known → (me : Receiver) (heard : List Heard) (bank : Bank) (x y : List ℕ) (chosen : Chosen) (image : List ℕ) (answer : Option Verdict) → Reaches me heard (Whole chosen image)
+    → IsSeen known me heard answer → GoesOn me heard bank x y answer → answer ≡ Some (Installed chosen)
+answer_carried known kept me heard bank x y chosen image None reached seen goes = absurd (seen.exact kept (Whole chosen image) reached)
+answer_carried known kept me heard bank x y chosen image (Some (Installed c)) reached seen goes =
     let same : Whole c goes.image ≡ Whole chosen image = reaches_one me heard (Whole c goes.image) (Whole chosen image) goes.reached reached in
     let group : c ≡ chosen = cc in
     ap (λ (o : Chosen). Some (Installed o)) group
-answer_carried me heard bank x y chosen image (Some (BadModule id want found)) reached seen goes =
+answer_carried known kept me heard bank x y chosen image (Some (BadModule id want found)) reached seen goes =
     let same : Wrong id want found ≡ Whole chosen image = reaches_one me heard (Wrong id want found) (Whole chosen image) goes.0 reached in
     absurd cc
-answer_carried me heard bank x y chosen image (Some Unsettled) reached seen goes =
+answer_carried known kept me heard bank x y chosen image (Some Unsettled) reached seen goes =
     let same : TooMany ≡ Whole chosen image = reaches_one me heard TooMany (Whole chosen image) goes.0 reached in
     absurd cc
-answer_carried me heard bank x y chosen image (Some (Nothing level)) reached seen goes = absurd seen
-answer_carried me heard bank x y chosen image (Some (Incomplete c n)) reached seen goes = absurd seen
+answer_carried known kept me heard bank x y chosen image (Some (Nothing level)) reached seen goes = absurd seen
+answer_carried known kept me heard bank x y chosen image (Some (Incomplete c n)) reached seen goes = absurd seen

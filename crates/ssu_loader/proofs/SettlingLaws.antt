@@ -1,5 +1,5 @@
 -- A group of which no place is missing: what its modules are, and what is installed.
-use Rattle.std.proofs.Common.{◌≡◌, inl, inr, ⊎_elim, ℕ, ◌+◌, ◌<◌, Bool, true, false, eqb, List, [], Option, Some, None, refl, sym, ap, subst, ◌∙◌}
+use Rattle.std.proofs.Common.{◌≡◌, inl, inr, ⊎_elim, ℕ, zero, suc, ◌+◌, ◌<◌, ◌≤◌, Bool, true, false, eqb, List, [], Option, Some, None, refl, sym, ap, subst, ◌∙◌, arith}
 use Rattle.std.specs.Prelude.{Contains, IfSome, MatchOption, is_some, unwrap_or}
 use Rattle.std.specs.List.{find}
 use Rattle.std.proofs.lemmas.Bool.{eq-eqb, eqb-true}
@@ -52,6 +52,18 @@ module _ (plan : GroupPlan) (fills : Fills) (has : ℕ → Bool) (filled : (n : 
     image_is outline is =
         ap (λ (o : Outline). group_text text o) is
         ∙ joined_same text (λ (n : ℕ). unwrap_or (fills n) []) plan.places text_is
+
+-- Where the places that are filled are staged and some place is not, some place is not filled.
+pub some_missing : (plan : GroupPlan) (fills : Fills) (has : ℕ → Bool) → ((n : ℕ) → n < plan.places → is_some (fills n) ≡ true → has n ≡ true)
+    → 1 ≤ missing_below has plan.places → 1 ≤ missing_places plan fills
+some_missing plan fills has includes some = by_count (missing_places plan fills) refl
+  where
+    by_count : (k : ℕ) → missing_places plan fills ≡ k → 1 ≤ missing_places plan fills
+    by_count zero none =
+        let filled = all_marked (λ (n : ℕ). is_some (fills n)) plan.places none in
+        let same = missing_same (λ (n : ℕ). is_some (fills n)) has plan.places (λ n below. includes n below (filled n below) ∙ sym (filled n below)) in
+        absurd (omega (arith, some, same, none))
+    by_count (suc k) more = omega (arith, more)
 
 -- all places of a module are staged
 pub module_staged : (plan : GroupPlan) (has : ℕ → Bool) (m : ModulePlan) → missing_below has plan.places ≡ 0 → Contains plan.modules.items m → (k : ℕ) → k < m.blocks → has (m.first + k) ≡ true

@@ -16,6 +16,7 @@ use Rattle.flash_layout.specs.Layout.{Geometry, blocks_of}
 use Rattle.flash_stage.specs.declared.stage.Stage.{Ghosts as StageGhosts}
 use Rattle.flash_bank.specs.Leaving.{KeepsBoot}
 use Rattle.flash_bank.proofs.LeavingLemmas.{keeps_boot_same}
+use Rattle.flash_stage.specs.Keeping.{StagesNone}
 use Rattle.flash_stage.specs.Leaving.{SameBank}
 use Rattle.flash_stage.proofs.LeavingLaws.{bank_itself, banks_joined}
 use Rattle.ssu_answer.specs.declared.chosen.Chosen.{Chosen}
@@ -28,15 +29,23 @@ use Rattle.ssu_answer.specs.declared.verdict.Verdict.TheVariants.{Installed, Not
 use Rattle.ssu_loader.specs.Decisions.{IsOpen, Reaches, TooMany, Whole, Wrong}
 use Rattle.ssu_loader.specs.Collecting.{StopsBefore}
 use Rattle.ssu_loader.specs.Leaving.{Ends, IfBadModule, IfUnsettled, InstallsChosen, SectionsLeave}
-use Rattle.ssu_loader.specs.Loading.{Follows, IsUsable, KnowsPackets, bank_of}
+use Rattle.ssu_loader.specs.Loading.{Follows, IsUsable, KnowsPackets, KnowsPacketsHeard, bank_of}
+use Rattle.ssu_loader.specs.Remaining.{StagesStanding}
 use Rattle.ssu_loader.specs.Replays.{ComesSeen, EndsWith, HearsAtPacket, HearsIn, ReplayLeaves, TakesAndInstalls, heard_in}
+use Rattle.ssu_loader.specs.Life.{HoldsHeard, StepsTo}
+use Rattle.ssu_loader.specs.Starting.{KnowsKept}
+use Rattle.ssu_loader.specs.Stepping.{TakesStep}
 use Rattle.ssu_loader.specs.Storing.{HasNoPrev, Stores, StoresBefore}
-use Rattle.ssu_loader.specs.Verdicts.{IsReached, IsSeen, IsVerdict}
-use Rattle.ssu_loader.proofs.FrontLaws.{none_before, taken_is}
+use Rattle.ssu_loader.specs.Verdicts.{IsLastSeen, IsReached, IsSeen, IsUndecided, IsVerdict}
+use Rattle.ssu_loader.proofs.FrontLaws.{none_before, packet_later, taken_is}
 use Rattle.ssu_loader.proofs.KeepingLaws.{installs_after, installs_of, leaves_after}
 use Rattle.ssu_loader.proofs.FreshLaws.{same_geometry}
 use Rattle.ssu_loader.proofs.LeftLaws.{left_now}
-use Rattle.ssu_loader.proofs.StoringLaws.{InBank, stores_before, stores_of}
+use Rattle.ssu_loader.proofs.CollectingLaws.{undecided_of}
+use Rattle.ssu_loader.proofs.HoldingLaws.{holds_itself}
+use Rattle.ssu_loader.proofs.StagedLaws.{both_left}
+use Rattle.ssu_loader.proofs.StepLaws.{holds_joined, holds_more, steps_install, steps_keep}
+use Rattle.ssu_loader.proofs.StoringLaws.{InBank, staged_of, stores_before, stores_of}
 
 -- ---- what is heard in the bytes that were taken
 
@@ -50,22 +59,29 @@ newest_none = ap reverse (packets_of_rest [] (omega arith))
 newest_more : (taken packet : List ℕ) (count : ℕ) → length taken ≡ 188 * count → length packet ≡ 188 → newest_packets (taken ++ packet) ≡ packet ∷ newest_packets taken
 newest_more taken packet count whole one = ap reverse (packets_more taken packet count whole one) ∙ reverse-append (packets taken) (packet ∷ [])
 
-heard_is : (me : Receiver) (taken : List ℕ) → heard_in me taken ≡ heard_by me (newest_packets taken)
+pub heard_is : (me : Receiver) (taken : List ℕ) → heard_in me taken ≡ heard_by me (newest_packets taken)
 unfolding heard_in
 heard_is me taken = refl
 
 -- ---- what the loader knows
 
 -- nothing is decided by the packets that it took
-pub is_open : {S F : Type 0} (s : StageGhosts S) (f : FlashGhosts F) (me : Receiver) (ps : List (List ℕ)) (loader : Loader S) (flash : F)
-    → Follows s f me ps loader flash → IsOpen me (heard_by me ps)
-is_open s f me ps loader flash follows = follows.collects.gathers.knows.undecided
+pub is_undecided : {S F : Type 0} (s : StageGhosts S) (f : FlashGhosts F) (me : Receiver) (ps : List (List ℕ)) (loader : Loader S) (flash : F)
+    → Follows s f me ps loader flash → IsUndecided (KnowsKept s f) me (heard_by me ps)
+is_undecided s f me ps loader flash follows = undecided_of s f me (heard_by me ps) loader.collector flash follows.collects.gathers
+
+pub knows_heard : {S F : Type 0} (s : StageGhosts S) (f : FlashGhosts F) (me : Receiver) (ps : List (List ℕ)) (loader : Loader S) (flash : F)
+    → Follows s f me ps loader flash → KnowsPacketsHeard s me ps loader
+knows_heard s f me ps loader flash follows = record {
+  stands = follows.collects.stands;
+  hears = follows.collects.gathers.hears;
+}
 
 pub knows_packets : {S F : Type 0} (s : StageGhosts S) (f : FlashGhosts F) (me : Receiver) (ps : List (List ℕ)) (loader : Loader S) (flash : F)
-    → Follows s f me ps loader flash → KnowsPackets s me ps loader
-knows_packets s f me ps loader flash follows = record {
-  stands = follows.collects.stands;
-  knows = follows.collects.gathers.knows;
+    → Follows s f me ps loader flash → KnowsKept s f → KnowsPackets s me ps loader
+knows_packets s f me ps loader flash follows known = record {
+  heard = knows_heard s f me ps loader flash follows;
+  knows = follows.collects.gathers.knows known;
 }
 
 pub fits_it : {S F : Type 0} (s : StageGhosts S) (f : FlashGhosts F) (loader : Loader S) (flash : F) → f.tells → IsUsable s f loader flash → Fits (bank_of loader) (f.contents flash)
@@ -84,6 +100,10 @@ pub record SoFar {S F : Type 0} (s : StageGhosts S) (f : FlashGhosts F) (count :
   pub fits : f.tells → Fits (bank_of first) (f.contents old)
   pub held : f.tells → KeepsBoot (geometry_of (bank_of first)) (f.contents old) (f.contents new)
   pub left : f.tells → LeavesOnly f.moment f.left_since old new (KeepsBoot (geometry_of (bank_of first)) (f.contents old))
+  pub holds : f.tells → (me : Receiver) → Follows s f me [] first old
+      → HoldsHeard (geometry_of (bank_of first)) me (heard_by me (newest_packets taken)) (f.contents old) (f.contents new)
+  pub holds_left : f.tells → (me : Receiver) → Follows s f me [] first old
+      → LeavesOnly f.moment f.left_since old new (HoldsHeard (geometry_of (bank_of first)) me (heard_by me (newest_packets taken)) (f.contents old))
   pub untouched : (me : Receiver) → Follows s f me [] first old → beginnings me (heard_by me (newest_packets taken)) ≡ 0 → new ≡ old
   pub blocks : f.block_count new ≡ f.block_count old
   pub block_size : f.block_len new ≡ f.block_len old
@@ -104,6 +124,10 @@ so_far_none s f loader flash left only usable =
       fits = fits;
       held = same;
       left = λ tells. left_now f only flash (KeepsBoot (geometry_of (bank_of loader)) (f.contents flash)) (same tells);
+      holds = λ tells me follows. holds_itself (geometry_of (bank_of loader)) me (heard_by me (newest_packets [])) (f.contents flash);
+      holds_left = λ tells me follows.
+          left_now f only flash (HoldsHeard (geometry_of (bank_of loader)) me (heard_by me (newest_packets [])) (f.contents flash))
+          (holds_itself (geometry_of (bank_of loader)) me (heard_by me (newest_packets [])) (f.contents flash));
       untouched = λ me follows none. refl;
       blocks = refl;
       block_size = refl;
@@ -117,6 +141,10 @@ pub record GoesOnWith {S F : Type 0} (s : StageGhosts S) (f : FlashGhosts F) (pa
   pub held : f.tells → (me : Receiver) (ps : List (List ℕ)) → Follows s f me ps now mid → KeepsBoot (geometry_of (bank_of now)) (f.contents mid) (f.contents new)
   pub left : f.tells → (me : Receiver) (ps : List (List ℕ)) → Follows s f me ps now mid
       → LeavesOnly f.moment f.left_since mid new (SectionsLeave me (heard_by me (packet ∷ ps)) (bank_of now) (f.contents mid))
+  pub holds : f.tells → (me : Receiver) (ps : List (List ℕ)) → Follows s f me ps now mid
+      → HoldsHeard (geometry_of (bank_of now)) me (heard_by me (packet ∷ ps)) (f.contents mid) (f.contents new)
+  pub holds_left : f.tells → (me : Receiver) (ps : List (List ℕ)) → Follows s f me ps now mid
+      → LeavesOnly f.moment f.left_since mid new (HoldsHeard (geometry_of (bank_of now)) me (heard_by me (packet ∷ ps)) (f.contents mid))
   pub untouched : (me : Receiver) (ps : List (List ℕ)) → Follows s f me ps now mid → beginnings me (heard_by me (packet ∷ ps)) ≡ 0 → new ≡ mid
   pub same_bank : SameBank (bank_of now) (bank_of then)
   pub blocks : f.block_count new ≡ f.block_count mid
@@ -135,6 +163,34 @@ module _ {S F : Type 0} (s : StageGhosts S) (f : FlashGhosts F) (count : ℕ) (f
   pub untouched_more : (me : Receiver) (packet : List ℕ) (new : F) → Follows s f me [] first old
       → (beginnings me (heard_by me (packet ∷ newest_packets so_far.taken)) ≡ 0 → new ≡ mid) → beginnings me (heard_by me (packet ∷ newest_packets so_far.taken)) ≡ 0 → new ≡ old
   untouched_more me packet new follows now none = now none ∙ so_far.untouched me follows (none_before me packet (newest_packets so_far.taken) none)
+
+  -- Of places no more is held than was, but those that were heard.
+  abbrev with_packet : Receiver → List ℕ → List Heard
+  with_packet me packet = heard_by me (packet ∷ newest_packets so_far.taken)
+
+  holds_earlier : (me : Receiver) (packet : List ℕ) (z : List ℕ) → HoldsHeard (geometry_of (bank_of first)) me (heard_by me (newest_packets so_far.taken)) (f.contents old) z
+      → HoldsHeard (geometry_of (bank_of first)) me (with_packet me packet) (f.contents old) z
+  holds_earlier me packet z was =
+      let more = packet_later me packet (newest_packets so_far.taken) in
+      subst (λ (items : List Heard). HoldsHeard (geometry_of (bank_of first)) me items (f.contents old) z) (sym more.is)
+      (holds_more (geometry_of (bank_of first)) me more.newer (heard_by me (newest_packets so_far.taken)) (f.contents old) z was)
+
+  pub holds_packet : f.tells → (me : Receiver) (packet : List ℕ) → Follows s f me [] first old → (y : List ℕ) → HoldsHeard (geometry_of (bank_of now)) me (with_packet me packet) (f.contents mid) y
+      → HoldsHeard (geometry_of (bank_of first)) me (with_packet me packet) (f.contents old) y
+  holds_packet tells me packet follows y call =
+      holds_joined (geometry_of (bank_of first)) me (with_packet me packet) (f.contents old) (f.contents mid) y
+      (holds_earlier me packet (f.contents mid) (so_far.holds tells me follows))
+      (subst (λ (blocks : Geometry). HoldsHeard blocks me (with_packet me packet) (f.contents mid) y) so_far.same.geometry call)
+
+  pub holds_packet_left : f.tells → (me : Receiver) (packet : List ℕ) (new : F) → Follows s f me [] first old
+      → LeavesOnly f.moment f.left_since mid new (HoldsHeard (geometry_of (bank_of now)) me (with_packet me packet) (f.contents mid))
+      → LeavesOnly f.moment f.left_since old new (HoldsHeard (geometry_of (bank_of first)) me (with_packet me packet) (f.contents old))
+  holds_packet_left tells me packet new follows call =
+      joined f.moment f.left_since old mid new (HoldsHeard (geometry_of (bank_of first)) me (with_packet me packet) (f.contents old))
+      (weaker f.moment f.left_since old mid (HoldsHeard (geometry_of (bank_of first)) me (heard_by me (newest_packets so_far.taken)) (f.contents old))
+      (HoldsHeard (geometry_of (bank_of first)) me (with_packet me packet) (f.contents old)) (holds_earlier me packet) (so_far.holds_left tells me follows))
+      (weaker f.moment f.left_since mid new (HoldsHeard (geometry_of (bank_of now)) me (with_packet me packet) (f.contents mid))
+      (HoldsHeard (geometry_of (bank_of first)) me (with_packet me packet) (f.contents old)) (holds_packet tells me packet follows) call)
 
   pub so_far_more : (then : Loader S) (new : F) (left_then : Option (List ℕ)) (packet : List ℕ)
       → Takes left_now left_then packet → length packet ≡ 188 → GoesOnWith s f packet now then mid new → SoFar s f (count + 1) first then old new left left_then
@@ -155,8 +211,14 @@ module _ {S F : Type 0} (s : StageGhosts S) (f : FlashGhosts F) (count : ℕ) (f
         held = λ tells. leaves_after (bank_of first) (bank_of now) (f.contents old) (f.contents mid) (f.contents new) so_far.same (so_far.held tells) (goes.held tells me ps own);
         left = λ tells. joined f.moment f.left_since old mid new (KeepsBoot (geometry_of (bank_of first)) (f.contents old)) (so_far.left tells)
             (weaker f.moment f.left_since mid new (SectionsLeave me (heard_by me (packet ∷ ps)) (bank_of now) (f.contents mid)) (KeepsBoot (geometry_of (bank_of first)) (f.contents old))
-            (undecided_left me (heard_by me (packet ∷ ps)) tells (is_open s f me (packet ∷ ps) then new after))
+            (undecided_left me (heard_by me (packet ∷ ps)) tells ((is_undecided s f me (packet ∷ ps) then new after).exact (inr tells)))
             (goes.left tells me ps own));
+        holds = λ tells you follows.
+            subst (λ (qs : List (List ℕ)). HoldsHeard (geometry_of (bank_of first)) you (heard_by you qs) (f.contents old) (f.contents new)) (sym (newest_more so_far.taken packet count so_far.whole one))
+            (holds_packet tells you packet follows (f.contents new) (goes.holds tells you (newest_packets so_far.taken) (so_far.follows you follows)));
+        holds_left = λ tells you follows.
+            subst (λ (qs : List (List ℕ)). LeavesOnly f.moment f.left_since old new (HoldsHeard (geometry_of (bank_of first)) you (heard_by you qs) (f.contents old))) (sym (newest_more so_far.taken packet count so_far.whole one))
+            (holds_packet_left tells you packet new follows (goes.holds_left tells you (newest_packets so_far.taken) (so_far.follows you follows)));
         untouched = λ you follows none.
             untouched_more you packet new follows (goes.untouched you (newest_packets so_far.taken) (so_far.follows you follows))
             (ap (λ (qs : List (List ℕ)). beginnings you (heard_by you qs)) (sym (newest_more so_far.taken packet count so_far.whole one)) ∙ none);
@@ -183,8 +245,19 @@ module _ {S F : Type 0} (s : StageGhosts S) (f : FlashGhosts F) (count : ℕ) (f
       subst (λ (blocks : Geometry). Stores blocks (f.contents mid) me sections) so_far.same.geometry
       (stores_of s f law in_bank tells me sections now.collector mid (so_far.follows me follows).collects)
 
-  pub open_now : (me : Receiver) → Follows s f me [] first old → IsOpen me (heard_by me (newest_packets so_far.taken))
-  open_now me follows = is_open s f me (newest_packets so_far.taken) now mid (so_far.follows me follows)
+  -- those that it keeps
+  pub staged_now : s.KEEPS ≡ true → f.tells → (me : Receiver) → Follows s f me [] first old
+      → StagesStanding (geometry_of (bank_of first)) (f.contents mid) me (heard_by me (newest_packets so_far.taken))
+  staged_now keeps tells me follows =
+      let sections = heard_by me (newest_packets so_far.taken) in
+      subst (λ (blocks : Geometry). StagesStanding blocks (f.contents mid) me sections) so_far.same.geometry
+      (staged_of s f keeps tells me sections now.collector mid (so_far.follows me follows).collects)
+
+  pub undecided_now : (me : Receiver) → Follows s f me [] first old → IsUndecided (KnowsKept s f) me (heard_by me (newest_packets so_far.taken))
+  undecided_now me follows = is_undecided s f me (newest_packets so_far.taken) now mid (so_far.follows me follows)
+
+  pub open_now : f.tells → (me : Receiver) → Follows s f me [] first old → IsOpen me (heard_by me (newest_packets so_far.taken))
+  open_now tells me follows = (undecided_now me follows).exact (inr tells)
 
   -- No packet came any more, and then nothing: these packets were taken.
   pub ended_within : (left_then left_last : Option (List ℕ)) → TakesRest count left_now left_then → Takes left_then left_last []
@@ -209,6 +282,34 @@ module _ {S F : Type 0} (s : StageGhosts S) (f : FlashGhosts F) (count : ℕ) (f
     now = subst Now (sym (heard_is me all.taken ∙ ap (λ (ps : List (List ℕ)). heard_by me (reverse ps)) all.all)) now;
   }
 
+  -- what is held then is a step, and so is all that was left
+  step_kept : (me : Receiver) (left_last : Option (List ℕ)) (taken : List ℕ) → Takes left left_last taken → heard_in me taken ≡ heard_by me (newest_packets so_far.taken) → (y : List ℕ)
+      → KeepsBoot (geometry_of (bank_of first)) (f.contents old) y → HoldsHeard (geometry_of (bank_of first)) me (heard_by me (newest_packets so_far.taken)) (f.contents old) y
+      → TakesStep me left left_last (geometry_of (bank_of first)) (f.contents old) y
+  step_kept me left_last taken takes is y keeps holds = record {
+    taken = taken;
+    takes = takes;
+    step = λ former boot.
+        steps_keep (geometry_of (bank_of first)) me (heard_in me taken) former (f.contents old) y boot keeps
+        (subst (λ (items : List Heard). HoldsHeard (geometry_of (bank_of first)) me items (f.contents old) y) (sym is) holds);
+  }
+
+  module _ (me : Receiver) (left_last : Option (List ℕ)) (Length : ℕ → Type 0) (all : TakesPackets Length left left_last (packets so_far.taken)) (tells : f.tells) (follows : Follows s f me [] first old) where
+    sections_are : heard_in me all.taken ≡ heard_by me (newest_packets so_far.taken)
+    sections_are = heard_is me all.taken ∙ ap (λ (ps : List (List ℕ)). heard_by me (reverse ps)) all.all
+
+    pub step_end : TakesStep me left left_last (geometry_of (bank_of first)) (f.contents old) (f.contents mid)
+    step_end = step_kept me left_last all.taken all.takes sections_are (f.contents mid) (so_far.held tells) (so_far.holds tells me follows)
+
+    pub step_end_left : LeavesOnly f.moment f.left_since old mid (TakesStep me left left_last (geometry_of (bank_of first)) (f.contents old))
+    step_end_left =
+        let g = geometry_of (bank_of first) in
+        let x = f.contents old in
+        let Holds : List ℕ → Type 0 = HoldsHeard g me (heard_by me (newest_packets so_far.taken)) x in
+        weaker f.moment f.left_since old mid (λ y. KeepsBoot g x y × Holds y) (TakesStep me left left_last g x)
+        (λ y is. step_kept me left_last all.taken all.takes sections_are y is.0 is.1)
+        (both_left f old mid (KeepsBoot g x) Holds (so_far.left tells) (so_far.holds_left tells me follows))
+
   -- ---- an answer at a packet
 
   pub at_packet : (me : Receiver) (left_then : Option (List ℕ)) (packet : List ℕ) (Now Before : List Heard → Type 0) → Takes left_now left_then packet → length packet ≡ 188 → count < 16777216
@@ -227,15 +328,15 @@ module _ {S F : Type 0} (s : StageGhosts S) (f : FlashGhosts F) (count : ℕ) (f
 
   -- the verdict that it brings, whether or not contents are told
   pub seen_at : (me : Receiver) (left_then : Option (List ℕ)) (packet : List ℕ) → Takes left_now left_then packet → length packet ≡ 188 → count < 16777216
-      → Follows s f me [] first old → (v : Verdict) → IsSeen me (heard_by me (packet ∷ newest_packets so_far.taken)) (Some v) → ComesSeen me left left_then v
+      → Follows s f me [] first old → (v : Verdict) → IsSeen (KnowsKept s f) me (heard_by me (packet ∷ newest_packets so_far.taken)) (Some v) → ComesSeen (KnowsKept s f) me left left_then v
   seen_at me left_then packet takes one few follows (Installed chosen) is =
-      at_packet me left_then packet (λ heard. IsSeen me heard (Some (Installed chosen))) (IsOpen me) takes one few is (open_now me follows)
+      at_packet me left_then packet (λ heard. IsSeen (KnowsKept s f) me heard (Some (Installed chosen))) (IsUndecided (KnowsKept s f) me) takes one few is (undecided_now me follows)
   seen_at me left_then packet takes one few follows (Nothing level) is = absurd is
   seen_at me left_then packet takes one few follows (Incomplete chosen missing) is = absurd is
   seen_at me left_then packet takes one few follows (BadModule id want found) is =
-      at_packet me left_then packet (λ heard. IsSeen me heard (Some (BadModule id want found))) (IsOpen me) takes one few is (open_now me follows)
+      at_packet me left_then packet (λ heard. IsSeen (KnowsKept s f) me heard (Some (BadModule id want found))) (IsUndecided (KnowsKept s f) me) takes one few is (undecided_now me follows)
   seen_at me left_then packet takes one few follows Unsettled is =
-      at_packet me left_then packet (λ heard. IsSeen me heard (Some Unsettled)) (IsOpen me) takes one few is (open_now me follows)
+      at_packet me left_then packet (λ heard. IsSeen (KnowsKept s f) me heard (Some Unsettled)) (IsUndecided (KnowsKept s f) me) takes one few is (undecided_now me follows)
 
   module _ (me : Receiver) (left_then : Option (List ℕ)) (packet : List ℕ) (takes : Takes left_now left_then packet) (one : length packet ≡ 188) (few : count < 16777216)
       (tells : f.tells) (follows : Follows s f me [] first old) where
@@ -248,7 +349,7 @@ module _ {S F : Type 0} (s : StageGhosts S) (f : FlashGhosts F) (count : ℕ) (f
     installs_at : (chosen : Chosen) (y : List ℕ) → InstallsChosen me heard (bank_of now) (f.contents mid) y chosen → TakesAndInstalls me left left_then g (f.contents old) y chosen
     installs_at chosen y installs = record {
       image = installs.image;
-      hears = at_packet me left_then packet (λ sections. Reaches me sections (Whole chosen installs.image)) (IsOpen me) takes one few installs.reached (open_now me follows);
+      hears = at_packet me left_then packet (λ sections. Reaches me sections (Whole chosen installs.image)) (IsOpen me) takes one few installs.reached (open_now tells me follows);
       installs = installs_of (bank_of first) chosen installs.image (f.contents old) y (so_far.fits tells)
           (installs_after (bank_of first) (bank_of now) chosen installs.image (f.contents old) (f.contents mid) y (so_far.fits tells) so_far.same (so_far.held tells) installs.installs);
     }
@@ -266,22 +367,71 @@ module _ {S F : Type 0} (s : StageGhosts S) (f : FlashGhosts F) (count : ℕ) (f
         joined f.moment f.left_since old mid new (ReplayLeaves me left left_then g (f.contents old)) (left_kept me left_then tells)
         (weaker f.moment f.left_since mid new (SectionsLeave me heard (bank_of now) (f.contents mid)) (ReplayLeaves me left left_then g (f.contents old)) leaves_at during)
 
+    -- a step of a life
+    sections_now : heard_in me (so_far.taken ++ packet) ≡ heard
+    sections_now = heard_is me (so_far.taken ++ packet) ∙ ap (heard_by me) (newest_more so_far.taken packet count so_far.whole one)
+
+    step_of : (y : List ℕ) → SectionsLeave me heard (bank_of now) (f.contents mid) y → HoldsHeard g me heard (f.contents old) y → TakesStep me left left_then g (f.contents old) y
+    step_of y leaves holds = record {
+      taken = so_far.taken ++ packet;
+      takes = Takes_join left left_now left_then so_far.taken packet so_far.takes takes;
+      step = λ former boot.
+          subst (λ (items : List Heard). StepsTo g me items former (f.contents old) y) (sym sections_now)
+          (⊎_elim (λ kept. steps_keep g me heard former (f.contents old) y boot (keeps_at y kept) holds)
+          (λ installs.
+          let is = installs.1 in
+          steps_install g me heard former installs.0 is.image (f.contents old) y is.reached
+          (installs_of (bank_of first) installs.0 is.image (f.contents old) y (so_far.fits tells)
+          (installs_after (bank_of first) (bank_of now) installs.0 is.image (f.contents old) (f.contents mid) y (so_far.fits tells) so_far.same (so_far.held tells) is.installs) former boot) holds) leaves);
+    }
+
+    pub step_at : (y : List ℕ) → SectionsLeave me heard (bank_of now) (f.contents mid) y → HoldsHeard (geometry_of (bank_of now)) me heard (f.contents mid) y
+        → TakesStep me left left_then g (f.contents old) y
+    step_at y leaves holds = step_of y leaves (holds_packet tells me packet follows y holds)
+
+    step_before : (y : List ℕ) → KeepsBoot g (f.contents old) y → HoldsHeard g me (heard_by me (newest_packets so_far.taken)) (f.contents old) y → TakesStep me left left_then g (f.contents old) y
+    step_before y keeps holds = record {
+      taken = so_far.taken ++ packet;
+      takes = Takes_join left left_now left_then so_far.taken packet so_far.takes takes;
+      step = λ former boot.
+          subst (λ (items : List Heard). StepsTo g me items former (f.contents old) y) (sym sections_now)
+          (steps_keep g me heard former (f.contents old) y boot keeps (holds_earlier me packet y holds));
+    }
+
+    pub step_left : (new : F) → LeavesOnly f.moment f.left_since mid new (SectionsLeave me heard (bank_of now) (f.contents mid))
+        → LeavesOnly f.moment f.left_since mid new (HoldsHeard (geometry_of (bank_of now)) me heard (f.contents mid))
+        → LeavesOnly f.moment f.left_since old new (TakesStep me left left_then g (f.contents old))
+    step_left new during holds =
+        let x = f.contents old in
+        let Step : List ℕ → Type 0 = TakesStep me left left_then g x in
+        let Before : List ℕ → Type 0 = HoldsHeard g me (heard_by me (newest_packets so_far.taken)) x in
+        let Leaves : List ℕ → Type 0 = SectionsLeave me heard (bank_of now) (f.contents mid) in
+        let Holds : List ℕ → Type 0 = HoldsHeard (geometry_of (bank_of now)) me heard (f.contents mid) in
+        joined f.moment f.left_since old mid new Step
+        (weaker f.moment f.left_since old mid (λ y. KeepsBoot g x y × Before y) Step (λ y is. step_before y is.0 is.1) (both_left f old mid (KeepsBoot g x) Before (so_far.left tells) (so_far.holds_left tells me follows)))
+        (weaker f.moment f.left_since mid new (λ y. Leaves y × Holds y) Step (λ y is. step_at y is.0 is.1) (both_left f mid new Leaves Holds during holds))
+
     -- the verdict that it brings
     pub ends_at : (law : InBank s) (v : Verdict) (new : F) → Ends me heard (bank_of now) (f.contents mid) (f.contents new) v → IfUnsettled (Some v) (StopsBefore s f me heard new)
-        → (s.IN_BANK ≡ true → IfBadModule (Some v) (HasNoPrev (geometry_of (bank_of now)) (f.contents new))) → f.block_count new ≡ f.block_count mid → f.block_len new ≡ f.block_len mid → EndsWith s.IN_BANK me left left_then g (f.contents old) (f.contents new) v
-    ends_at law (Installed chosen) new installs stops none blocks lens = installs_at chosen (f.contents new) installs
-    ends_at law (Nothing level) new ends stops none blocks lens = absurd ends.0
-    ends_at law (Incomplete chosen missing) new ends stops none blocks lens = absurd ends.0
-    ends_at law (BadModule id want found) new ends stops none blocks lens = (
-      at_packet me left_then packet (λ sections. IsReached me sections (BadModule id want found)) (IsOpen me) takes one few ends.0 (open_now me follows),
-      (keeps_at (f.contents new) ends.1, λ is. subst (λ (blocks : Geometry). HasNoPrev blocks (f.contents new)) so_far.same.geometry (none is)),
+        → (s.IN_BANK ≡ true → IfBadModule (Some v) (HasNoPrev (geometry_of (bank_of now)) (f.contents new)))
+        → (s.KEEPS ≡ true → IfBadModule (Some v) (StagesNone (geometry_of (bank_of now)) (f.contents new))) → f.block_count new ≡ f.block_count mid → f.block_len new ≡ f.block_len mid → EndsWith s.IN_BANK s.KEEPS me left left_then g (f.contents old) (f.contents new) v
+    ends_at law (Installed chosen) new installs stops none forgotten blocks lens = installs_at chosen (f.contents new) installs
+    ends_at law (Nothing level) new ends stops none forgotten blocks lens = absurd ends.0
+    ends_at law (Incomplete chosen missing) new ends stops none forgotten blocks lens = absurd ends.0
+    ends_at law (BadModule id want found) new ends stops none forgotten blocks lens = (
+      at_packet me left_then packet (λ sections. IsReached me sections (BadModule id want found)) (IsOpen me) takes one few ends.0 (open_now tells me follows),
+      (
+        keeps_at (f.contents new) ends.1,
+        λ is. subst (λ (blocks : Geometry). HasNoPrev blocks (f.contents new)) so_far.same.geometry (none is),
+        λ is. subst (λ (blocks : Geometry). StagesNone blocks (f.contents new)) so_far.same.geometry (forgotten is),
+      ),
     )
-    ends_at law Unsettled new ends stops none blocks lens =
+    ends_at law Unsettled new ends stops none forgotten blocks lens =
         let lent = follows.collects.gathers.lent in
         let own : blocks_of f new ≡ g = same_geometry (blocks_of f new) g (blocks ∙ (so_far.blocks ∙ lent.blocks)) (lens ∙ (so_far.block_size ∙ lent.block_size)) in
         let y = f.contents new in (
           at_packet me left_then packet (λ sections. IsReached me sections Unsettled × (s.IN_BANK ≡ true → StoresBefore g y me sections)) (IsOpen me) takes one few
-              (ends.0, λ is. subst (λ (blocks : Geometry). StoresBefore blocks y me heard) own (stores_before s f law is tells me heard new stops)) (open_now me follows),
+              (ends.0, λ is. subst (λ (blocks : Geometry). StoresBefore blocks y me heard) own (stores_before s f law is tells me heard new stops)) (open_now tells me follows),
           keeps_at y ends.1,
         )
 
@@ -305,28 +455,29 @@ untouched_at me left left_then Before old new hears taken rest told told_then no
 -- ---- the verdict at the end of the input
 
 -- Nothing is decided, and this comes of the sections.
-abbrev pub ComesLast : Receiver → Verdict → List Heard → Type 0
-ComesLast me v heard = IsVerdict me heard v × IsOpen me heard
+abbrev pub ComesLast : Type 0 → Receiver → Verdict → List Heard → Type 0
+ComesLast known me v heard = IsLastSeen known me heard v
 
-pub seen_last : (me : Receiver) (v : Verdict) (left left_then : Option (List ℕ)) → HearsIn me left left_then IsWithin (ComesLast me v) → IsAtEnd left_then → ComesSeen me left left_then v
-seen_last me (Installed chosen) left left_then hears end = absurd (hears.now.1 (Whole chosen hears.now.0.0) hears.now.0.1)
-seen_last me (Nothing level) left left_then hears end =
-    record { hears = record { taken = hears.taken; takes = hears.takes; bytes = hears.bytes; now = hears.now.0 }; end = end }
-seen_last me (Incomplete chosen missing) left left_then hears end =
-    record { hears = record { taken = hears.taken; takes = hears.takes; bytes = hears.bytes; now = hears.now.0 }; end = end }
-seen_last me (BadModule id want found) left left_then hears end = absurd (hears.now.1 (Wrong id want found) hears.now.0)
-seen_last me Unsettled left left_then hears end = absurd (hears.now.1 TooMany hears.now.0)
+pub seen_last : (known : Type 0) (me : Receiver) (v : Verdict) (left left_then : Option (List ℕ)) → HearsIn me left left_then IsWithin (ComesLast known me v) → IsAtEnd left_then
+    → ComesSeen known me left left_then v
+seen_last known me (Installed chosen) left left_then hears end = absurd hears.now.partial
+seen_last known me (Nothing level) left left_then hears end = record { hears = hears; end = end }
+seen_last known me (Incomplete chosen missing) left left_then hears end = record { hears = hears; end = end }
+seen_last known me (BadModule id want found) left left_then hears end = absurd hears.now.partial
+seen_last known me Unsettled left left_then hears end = absurd hears.now.partial
 
--- What is known at the end, where a stage in the bank has the places of the choice that stands, and what boot took before is gone.
-abbrev pub EndsLast : Bool → Geometry → List ℕ → Receiver → Verdict → List Heard → Type 0
-EndsLast in_bank g y me v heard = IsVerdict me heard v × IsOpen me heard × (in_bank ≡ true → Stores g y me heard)
+-- What is known at the end, where a stage in the bank has the places of the choice that stands, and what boot took before is gone, and a stage
+-- that keeps its places has left them staged.
+abbrev pub EndsLast : Bool → Bool → Geometry → List ℕ → Receiver → Verdict → List Heard → Type 0
+EndsLast in_bank keeps g y me v heard =
+    IsVerdict me heard v × IsOpen me heard × (in_bank ≡ true → Stores g y me heard) × (keeps ≡ true → StagesStanding g y me heard)
 
-pub ends_last : (in_bank : Bool) (me : Receiver) (v : Verdict) (left left_then : Option (List ℕ)) (g : Geometry) (x y : List ℕ) → HearsIn me left left_then IsWithin (EndsLast in_bank g y me v)
-    → IsAtEnd left_then → KeepsBoot g x y → EndsWith in_bank me left left_then g x y v
-ends_last in_bank me (Installed chosen) left left_then g x y hears end keeps = absurd (hears.now.1 (Whole chosen hears.now.0.0) hears.now.0.1)
-ends_last in_bank me (Nothing level) left left_then g x y hears end keeps =
+pub ends_last : (in_bank keeping : Bool) (me : Receiver) (v : Verdict) (left left_then : Option (List ℕ)) (g : Geometry) (x y : List ℕ)
+    → HearsIn me left left_then IsWithin (EndsLast in_bank keeping g y me v) → IsAtEnd left_then → KeepsBoot g x y → EndsWith in_bank keeping me left left_then g x y v
+ends_last in_bank keeping me (Installed chosen) left left_then g x y hears end keeps = absurd (hears.now.1 (Whole chosen hears.now.0.0) hears.now.0.1)
+ends_last in_bank keeping me (Nothing level) left left_then g x y hears end keeps =
     (record { hears = record { taken = hears.taken; takes = hears.takes; bytes = hears.bytes; now = (hears.now.0, λ staged. (hears.now.2 staged).gone) }; end = end }, keeps)
-ends_last in_bank me (Incomplete chosen missing) left left_then g x y hears end keeps =
-    (record { hears = record { taken = hears.taken; takes = hears.takes; bytes = hears.bytes; now = (hears.now.0, hears.now.2) }; end = end }, keeps)
-ends_last in_bank me (BadModule id want found) left left_then g x y hears end keeps = absurd (hears.now.1 (Wrong id want found) hears.now.0)
-ends_last in_bank me Unsettled left left_then g x y hears end keeps = absurd (hears.now.1 TooMany hears.now.0)
+ends_last in_bank keeping me (Incomplete chosen missing) left left_then g x y hears end keeps =
+    (record { hears = record { taken = hears.taken; takes = hears.takes; bytes = hears.bytes; now = (hears.now.0, hears.now.2, hears.now.3) }; end = end }, keeps)
+ends_last in_bank keeping me (BadModule id want found) left left_then g x y hears end keeps = absurd (hears.now.1 (Wrong id want found) hears.now.0)
+ends_last in_bank keeping me Unsettled left left_then g x y hears end keeps = absurd (hears.now.1 TooMany hears.now.0)

@@ -1,17 +1,17 @@
--- A module that is wrong.
-use Rattle.std.proofs.Common.{◌≡◌, ℕ, ◌≤◌, Bool, true, false, cond, leb, List, ◌∷◌, Option, Some, None, subst, arith}
+-- A choice that stands, and a module of its group that is wrong.
+use Rattle.std.proofs.Common.{◌≡◌, ℕ, Bool, true, false, cond, leb, List, Option, Some, None, subst}
 use Rattle.std.specs.Prelude.{IsSome}
+use Rattle.flash_bank.specs.Bank.{Fits, geometry_of, is_begun}
+use Rattle.flash_bank.specs.Leaving.{KeepsBoot}
+use Rattle.flash_bank.specs.declared.bank.Bank.{Bank}
+use Rattle.flash_bank.proofs.BankLemmas.{begun_gone}
+use Rattle.flash_stage.specs.Leaving.{SameBank}
 use Rattle.ts_section.specs.Events.{Heard}
-use Rattle.ssu_group.specs.Carried.{Fills, missing_places}
 use Rattle.route_tables.specs.Values.{Receiver}
-use Rattle.ssu_route.specs.declared.change.Change.TheVariants.{Chosen}
 use Rattle.ssu_route.specs.Choosing.{level_7}
-use Rattle.ssu_route.specs.Windows.{beginnings, change_at, standing}
-use Rattle.ssu_route.proofs.Choices.{none_begins}
-use Rattle.ssu_loader.specs.Decisions.{IsWrong}
-use Rattle.ssu_loader.specs.Opening.{KeepsNothing}
-use Rattle.ssu_loader.proofs.ChoiceLaws.{all_missing, some_began}
-use Rattle.ssu_loader.proofs.KeptLaws.{begins_empty}
+use Rattle.ssu_route.specs.Windows.{beginnings, standing}
+use Rattle.ssu_loader.specs.Storing.{HasNoPrev}
+use Rattle.ssu_loader.proofs.KeepingLaws.{leaves_moved}
 
 some_of_cond : {A : Type 0} (b : Bool) (o : Option A) → IsSome (cond b o None) → IsSome o
 some_of_cond true o some = some
@@ -23,14 +23,9 @@ pub standing_some : (me : Receiver) (heard : List Heard) → IsSome (standing me
 unfolding standing
 standing_some me heard some = some_of_cond (leb (beginnings me heard) 16) (level_7 me heard) some
 
--- its choice began before the newest section, since a choice that begins with nothing kept has no place
-pub wrong_began : (me : Receiver) (item : Heard) (heard : List Heard) (id want found : ℕ) → KeepsNothing me → IsWrong me (item ∷ heard) id want found → 1 ≤ beginnings me heard
-wrong_began me item heard id want found opens is =
-    let some : IsSome (level_7 me (item ∷ heard)) = standing_some me (item ∷ heard) is.standing.stands in
-    let other : change_at me item heard ≡ Chosen → ⊥ = λ chosen.
-    let filled = subst (λ (fills : Fills). missing_places is.choice.plan fills ≡ 0) (begins_empty me opens item heard is.choice.plan chosen) is.wrong.filled in
-    let missing = all_missing is.choice.plan in
-    absurd (omega (arith, filled, missing)) in
-    let same = none_begins me item heard other in
-    let began = some_began me (item ∷ heard) some in
-    omega (arith, same, began)
+-- where the bank was begun, and then the flash was read and the group forgotten, what boot took before is gone
+pub no_prev_left : (bank now : Bank) (x mid y : List ℕ) → Fits bank x → is_begun bank ≡ true → SameBank bank now → mid ≡ x → KeepsBoot (geometry_of now) mid y → HasNoPrev (geometry_of bank) y
+no_prev_left bank now x mid y fits begun same read keeps =
+    let gone = begun_gone bank x fits begun in
+    let kept : KeepsBoot (geometry_of bank) x y = subst (λ (z : List ℕ). KeepsBoot (geometry_of bank) z y) read (leaves_moved bank now mid y same keeps) in
+    λ b from. gone b (kept.keeps.prev b from)

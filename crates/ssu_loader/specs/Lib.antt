@@ -2,10 +2,15 @@ pub mod Decisions
 pub mod Verdicts
 pub mod Collecting
 pub mod Leaving
+pub mod Life
 pub mod Loading
+pub mod Remaining
 pub mod Replays
 pub mod Replaying
 pub mod Faults
 pub mod Opening
 pub mod Settling
+pub mod Staging
+pub mod Starting
 pub mod Storing
+pub mod Stepping

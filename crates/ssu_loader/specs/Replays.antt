@@ -8,6 +8,7 @@ use Rattle.flash_bank.specs.Leaving.{Installs, KeepsBoot}
 use Rattle.flash_bank.specs.Record.{next_record}
 use Rattle.flash_bank.specs.Sound.{Boot, BootOf}
 use Rattle.flash_bank.specs.declared.record.Record.{Record}
+use Rattle.flash_stage.specs.Keeping.{StagesNone}
 use Rattle.ssu_answer.specs.declared.chosen.Chosen.{Chosen}
 use Rattle.route_tables.specs.Values.{Receiver}
 use Rattle.ssu_route.specs.Queries.{heard_by}
@@ -15,8 +16,9 @@ use Rattle.ssu_route.specs.Windows.{beginnings}
 use Rattle.ssu_answer.specs.declared.verdict.Verdict.{Verdict}
 use Rattle.ssu_answer.specs.declared.verdict.Verdict.TheVariants.{Installed, Nothing, Incomplete, BadModule, Unsettled}
 use Rattle.ssu_loader.specs.Decisions.{IsOpen, Reaches, Whole}
+use Rattle.ssu_loader.specs.Remaining.{StagesStanding}
 use Rattle.ssu_loader.specs.Storing.{EndsPrev, HasNoPrev, Stores, StoresBefore}
-use Rattle.ssu_loader.specs.Verdicts.{IsReached, IsSeen, IsVerdict}
+use Rattle.ssu_loader.specs.Verdicts.{IsLastSeen, IsReached, IsSeen, IsUndecided, IsVerdict}
 
 -- ---- what was taken
 
@@ -58,19 +60,22 @@ pub record HearsToEnd (me : Receiver) (left left_after : Option (List ℕ)) (Now
   pub end : IsAtEnd left_after
 
 -- Where a verdict comes, at the packet at which it is reached or at the end of the input, and what is known of it whether or not
--- the flash tells what it holds: which places were filled, and not with which bytes.
-abbrev pub ComesSeen : Receiver → Option (List ℕ) → Option (List ℕ) → Verdict → Type 0
-ComesSeen me left left_after (Nothing level) = HearsToEnd me left left_after (λ heard. IsVerdict me heard (Nothing level))
-ComesSeen me left left_after (Incomplete chosen count) = HearsToEnd me left left_after (λ heard. IsVerdict me heard (Incomplete chosen count))
-ComesSeen me left left_after verdict = HearsAtPacket me left left_after (λ heard. IsSeen me heard (Some verdict)) (IsOpen me)
+-- the flash tells what it holds: on which group it is, and not with which bytes; and where it is known what the flash kept, which places were
+-- kept or filled.
+abbrev pub ComesSeen : Type 0 → Receiver → Option (List ℕ) → Option (List ℕ) → Verdict → Type 0
+ComesSeen known me left left_after (Nothing level) = HearsToEnd me left left_after (λ heard. IsLastSeen known me heard (Nothing level))
+ComesSeen known me left left_after (Incomplete chosen count) =
+    HearsToEnd me left left_after (λ heard. IsLastSeen known me heard (Incomplete chosen count))
+ComesSeen known me left left_after verdict =
+    HearsAtPacket me left left_after (λ heard. IsSeen known me heard (Some verdict)) (IsUndecided known me)
 
 -- So many bytes were taken, and no verdict is reached in their packets.
-abbrev pub ReachesNone : Receiver → Option (List ℕ) → Option (List ℕ) → (ℕ → Type 0) → Type 0
-ReachesNone me left left_after Length = HearsIn me left left_after Length (IsOpen me)
+abbrev pub ReachesNone : Type 0 → Receiver → Option (List ℕ) → Option (List ℕ) → (ℕ → Type 0) → Type 0
+ReachesNone known me left left_after Length = HearsIn me left left_after Length (IsUndecided known me)
 
 -- Whole packets were taken, and no verdict is reached in all but the last.
-abbrev pub BreaksAtPacket : Receiver → Option (List ℕ) → Option (List ℕ) → Type 0
-BreaksAtPacket me left left_after = HearsAtPacket me left left_after (λ heard. Unit {0}) (IsOpen me)
+abbrev pub BreaksAtPacket : Type 0 → Receiver → Option (List ℕ) → Option (List ℕ) → Type 0
+BreaksAtPacket known me left left_after = HearsAtPacket me left left_after (λ heard. Unit {0}) (IsUndecided known me)
 
 -- ---- what was left
 
@@ -90,19 +95,21 @@ abbrev pub ReplayLeaves : Receiver → Option (List ℕ) → Option (List ℕ) �
 ReplayLeaves me left left_after g x y = KeepsBoot g x y ⊎ ((chosen : Chosen) × TakesAndInstalls me left left_after g x y chosen)
 
 -- The verdict of the packets that were taken, which came there, and x became y. Where the places of a group are staged in the
--- bank, those of a choice that stands at the end are there, and at one too many those of the one before, where it still stood;
--- once a choice began, what boot took before the current image is gone.
-abbrev pub EndsWith : Bool → Receiver → Option (List ℕ) → Option (List ℕ) → Geometry → List ℕ → List ℕ → Verdict → Type 0
-EndsWith in_bank me left left_after g x y (Installed chosen) = TakesAndInstalls me left left_after g x y chosen
-EndsWith in_bank me left left_after g x y (Nothing level) =
+-- bank, those of a choice that stands at the end are there, if its group is not one that is kept, and at one too many those of the one before,
+-- where it still stood; once a choice began, what boot took before the current image is gone. Where the stage keeps its places, those of a
+-- choice that stands at the end are staged, and of a group with a wrong module none.
+abbrev pub EndsWith : Bool → Bool → Receiver → Option (List ℕ) → Option (List ℕ) → Geometry → List ℕ → List ℕ → Verdict → Type 0
+EndsWith in_bank keeps me left left_after g x y (Installed chosen) = TakesAndInstalls me left left_after g x y chosen
+EndsWith in_bank keeps me left left_after g x y (Nothing level) =
     HearsToEnd me left left_after
     (λ heard. IsVerdict me heard (Nothing level) × (in_bank ≡ true → EndsPrev g y me heard)) × KeepsBoot g x y
-EndsWith in_bank me left left_after g x y (Incomplete chosen count) =
+EndsWith in_bank keeps me left left_after g x y (Incomplete chosen count) =
     HearsToEnd me left left_after
-    (λ heard. IsVerdict me heard (Incomplete chosen count) × (in_bank ≡ true → Stores g y me heard)) × KeepsBoot g x y
-EndsWith in_bank me left left_after g x y (BadModule id want found) =
+    (λ heard. IsVerdict me heard (Incomplete chosen count) × (in_bank ≡ true → Stores g y me heard)
+    × (keeps ≡ true → StagesStanding g y me heard)) × KeepsBoot g x y
+EndsWith in_bank keeps me left left_after g x y (BadModule id want found) =
     HearsAtPacket me left left_after (λ heard. IsReached me heard (BadModule id want found)) (IsOpen me)
-    × (KeepsBoot g x y × (in_bank ≡ true → HasNoPrev g y))
-EndsWith in_bank me left left_after g x y Unsettled =
+    × (KeepsBoot g x y × (in_bank ≡ true → HasNoPrev g y) × (keeps ≡ true → StagesNone g y))
+EndsWith in_bank keeps me left left_after g x y Unsettled =
     HearsAtPacket me left left_after
     (λ heard. IsReached me heard Unsettled × (in_bank ≡ true → StoresBefore g y me heard)) (IsOpen me) × KeepsBoot g x y

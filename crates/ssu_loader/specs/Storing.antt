@@ -1,5 +1,5 @@
 -- The places of a group that stand in the spare bank, and what its erase has ended. Lists of sections have the newest first.
-use Rattle.std.specs.Prelude.{◌≡◌, ℕ, ◌+◌, ◌-◌, ◌<◌, ◌≤◌, List, ◌∷◌, ◌++◌, Some, IsTrue}
+use Rattle.std.specs.Prelude.{◌≡◌, ℕ, ◌+◌, ◌-◌, ◌<◌, ◌≤◌, false, List, ◌∷◌, ◌++◌, Some, IsTrue}
 use Rattle.flash_layout.specs.Layout.{Geometry, area_place}
 use Rattle.flash_layout.specs.Pairs.{part}
 use Rattle.flash_bank.specs.Sound.{Boot, IsCurrent, PrevOf, record_in}
@@ -12,6 +12,7 @@ use Rattle.route_tables.specs.Values.{Receiver}
 use Rattle.ssu_route.specs.declared.choice.Choice.{Choice}
 use Rattle.ssu_route.specs.Windows.{beginnings, is_one_too_many, window}
 use Rattle.ssu_loader.specs.Decisions.{IsStanding}
+use Rattle.ssu_loader.specs.Opening.{is_within}
 
 -- Each place of the plan that the sections fill stands in the bank of these contents that boot does not take, with the bytes of
 -- the first block that fills it.
@@ -29,9 +30,11 @@ HasNoPrev g contents = (b : Boot) → PrevOf g contents b → ⊥
 abbrev pub EndsPrev : Geometry → List ℕ → Receiver → List Heard → Type 0
 EndsPrev g contents me heard = 1 ≤ beginnings me heard → HasNoPrev g contents
 
--- Where a choice stands, the places that its window fills stand so. What boot took before is gone once a choice has begun.
+-- Where a choice stands whose group is not one that is kept, the places that its window fills stand so. What boot took before is gone once a
+-- choice has begun.
 pub record Stores (g : Geometry) (contents : List ℕ) (me : Receiver) (heard : List Heard) : Type 0 where
-  pub places : (choice : Choice) → IsStanding me heard choice → StandsInSpare g contents choice.plan (window me heard)
+  pub places : (choice : Choice) → IsStanding me heard choice → is_within me.opening.most choice.plan.places ≡ false
+      → StandsInSpare g contents choice.plan (window me heard)
   pub gone : EndsPrev g contents me heard
 
 -- At one of these sections a choice too many would begin, and the places of the one that stood before it stand so still.

@@ -1,9 +1,10 @@
 //! The group that the box wants, section by section, up to a decision.
 
-ghost use Rattle.std.specs.Prelude.{◌≡◌, ◌∷◌, List, IfNone, IfOk, IsFalse, IsTrue, Ok, OnOk, Some, ◌≢◌};
+ghost use Rattle.std.specs.Prelude.{◌≡◌, ◌∷◌, List, IfNone, IfOk, IsFalse, IsTrue, Ok, OnOk, Some, ◌≢◌, true};
 ghost use Rattle.flash_bank.specs.Bank.{IsLent, geometry_of};
 ghost use Rattle.section_form.specs.Section.{IsRight};
 ghost use Rattle.flash_dev.specs.Moments.{LeavesOnly};
+ghost use Rattle.flash_stage.specs.Keeping.{StagesNone};
 ghost use Rattle.flash_stage.specs.Leaving.{SameBank};
 ghost use Rattle.ssu_io.specs.Faults.{HasCause};
 ghost use Rattle.ts_section.specs.Events.{Heard};
@@ -11,10 +12,13 @@ ghost use Rattle.route_tables.specs.Next.{heard_on};
 ghost use Rattle.route_tables.specs.Values.{Receiver};
 ghost use Rattle.ssu_route.specs.declared.change.Change.TheVariants as change;
 ghost use Rattle.ssu_route.specs.Route.{Stands};
-ghost use Rattle.ssu_loader.specs.Leaving.{GoesOn, SectionsLeave, UnlessInstalled};
+ghost use Rattle.ssu_loader.specs.Leaving.{GoesOn, IfBadModule, SectionsLeave, UnlessInstalled};
+ghost use Rattle.ssu_loader.specs.Life.{HoldsHeard};
+ghost use Rattle.ssu_loader.specs.Starting.{KnowsKept};
+ghost use Rattle.ssu_loader.specs.Storing.{HasNoPrev};
 ghost use Rattle.ssu_route.specs.Windows.{beginnings, is_one_too_many};
 ghost use Rattle.ssu_answer.specs.declared.verdict.Verdict.TheVariants as verdict;
-ghost use Rattle.ssu_loader.specs.Verdicts.{IsSeen, IsVerdict};
+ghost use Rattle.ssu_loader.specs.Verdicts.{IsPartialVerdict, IsSeen, IsVerdict};
 
 use crate::gather::{gather, start};
 use crate::settle::chosen;
@@ -39,7 +43,7 @@ pub(crate) struct Collector<S> {
 }
 
 impl<S: Stage> Collector<S> {
-    ghost use Rattle.ssu_loader.specs.Collecting.{Collects, IsAhead, IsUsable, IsUsableAt, Knows};
+    ghost use Rattle.ssu_loader.specs.Collecting.{Collects, IsAhead, IsUsable, IsUsableAt, Knows, KnowsHeard};
 
     /// Hears the next section, on this PID. It is right. It answers a verdict where one is reached.
     pub(crate) fn hear<F: Flash>(
@@ -53,7 +57,7 @@ impl<S: Stage> Collector<S> {
         ensures collects { (me : Receiver) (heard : List Heard) → Collects S.Stage F.Flash me heard self.old flash.old
             → IfOk result (λ answer. IfNone answer (Collects S.Stage F.Flash me (heard_on pid section.now ∷ heard) self.new flash.new)) }
         ensures seen { (me : Receiver) (heard : List Heard) → Collects S.Stage F.Flash me heard self.old flash.old
-            → IfOk result (IsSeen me (heard_on pid section.now ∷ heard)) }
+            → IfOk result (IsSeen (KnowsKept S.Stage F.Flash) me (heard_on pid section.now ∷ heard)) }
         ensures goes_on { F.tells → (me : Receiver) (heard : List Heard) → Collects S.Stage F.Flash me heard self.old flash.old
             → IfOk result (GoesOn me (heard_on pid section.now ∷ heard) self.old.bank (F.contents flash.old) (F.contents flash.new)) }
         ensures held { F.tells → (me : Receiver) (heard : List Heard) → Collects S.Stage F.Flash me heard self.old flash.old
@@ -67,6 +71,17 @@ impl<S: Stage> Collector<S> {
             → (result ≡ Ok (Some verdict.Unsettled)) × (flash.new ≡ flash.old) }
         ensures untouched { (me : Receiver) (heard : List Heard) → Collects S.Stage F.Flash me heard self.old flash.old
             → beginnings me (heard_on pid section.now ∷ heard) ≡ 0 → flash.new ≡ flash.old }
+        // Of places it holds no more than it held, but those that were heard.
+        ensures holds { F.tells → (me : Receiver) (heard : List Heard) → Collects S.Stage F.Flash me heard self.old flash.old
+            → HoldsHeard (geometry_of self.old.bank) me (heard_on pid section.now ∷ heard) (F.contents flash.old) (F.contents flash.new) }
+        ensures holds_left { F.tells → (me : Receiver) (heard : List Heard) → Collects S.Stage F.Flash me heard self.old flash.old
+            → LeavesOnly F.moment F.left_since flash.old flash.new
+            (HoldsHeard (geometry_of self.old.bank) me (heard_on pid section.now ∷ heard) (F.contents flash.old)) }
+        // Where a module is wrong a choice had begun, and nothing of the group stays staged.
+        ensures no_prev { S.IN_BANK ≡ true → F.tells → IfOk result (λ answer. IfBadModule answer
+            (HasNoPrev (geometry_of self.old.bank) (F.contents flash.new))) }
+        ensures forgotten { S.KEEPS ≡ true → F.tells → IfOk result (λ answer. IfBadModule answer
+            (StagesNone (geometry_of self.old.bank) (F.contents flash.new))) }
         ensures same_bank { UnlessInstalled result (SameBank self.old.bank self.new.bank) }
         ensures lent { OnOk result (IsLent F.tells F.contents F.block_count F.block_len self.new.bank flash.new) }
         ensures geometry { geometry_of self.new.bank ≡ geometry_of self.old.bank }
@@ -84,8 +99,10 @@ impl<S: Stage> Collector<S> {
 
     /// What comes of the sections if no more come.
     pub(crate) fn end(&self) -> Verdict
-        ensures { (me : Receiver) (heard : List Heard) → Stands me heard self.now.route → Knows S.Stage me heard self.now
-            → IsVerdict me heard result }
+        ensures verdict { (me : Receiver) (heard : List Heard) → Stands me heard self.now.route → KnowsHeard S.Stage me heard self.now
+            → Knows S.Stage me heard self.now → IsVerdict me heard result }
+        ensures partial { (me : Receiver) (heard : List Heard) → Stands me heard self.now.route → KnowsHeard S.Stage me heard self.now
+            → IsPartialVerdict me heard result }
     {
         match self.route.choice() {
             None => Verdict::Nothing(self.route.missing()),
@@ -99,13 +116,26 @@ impl<S: Stage> Collector<S> {
         ensures collects { (me : Receiver) (item : Heard) (heard : List Heard) → IsAhead S.Stage F.Flash me item heard change.Chosen self.old flash.old
             → IfOk result (λ answer. IfNone answer (Collects S.Stage F.Flash me (item ∷ heard) self.new flash.new)) }
         ensures seen { (me : Receiver) (item : Heard) (heard : List Heard) → IsAhead S.Stage F.Flash me item heard change.Chosen self.old flash.old
-            → IfOk result (IsSeen me (item ∷ heard)) }
+            → IfOk result (IsSeen (KnowsKept S.Stage F.Flash) me (item ∷ heard)) }
         ensures goes_on { F.tells → (me : Receiver) (item : Heard) (heard : List Heard) → IsAhead S.Stage F.Flash me item heard change.Chosen self.old flash.old
             → IfOk result (GoesOn me (item ∷ heard) self.old.bank (F.contents flash.old) (F.contents flash.new)) }
         ensures held { F.tells → (me : Receiver) (item : Heard) (heard : List Heard) → IsAhead S.Stage F.Flash me item heard change.Chosen self.old flash.old
             → SectionsLeave me (item ∷ heard) self.old.bank (F.contents flash.old) (F.contents flash.new) }
         ensures left { F.tells → (me : Receiver) (item : Heard) (heard : List Heard) → IsAhead S.Stage F.Flash me item heard change.Chosen self.old flash.old
             → LeavesOnly F.moment F.left_since flash.old flash.new (SectionsLeave me (item ∷ heard) self.old.bank (F.contents flash.old)) }
+        // Of places it holds no more than it held, but those that were heard.
+        ensures holds { F.tells → (me : Receiver) (item : Heard) (heard : List Heard)
+            → IsAhead S.Stage F.Flash me item heard change.Chosen self.old flash.old
+            → HoldsHeard (geometry_of self.old.bank) me (item ∷ heard) (F.contents flash.old) (F.contents flash.new) }
+        ensures holds_left { F.tells → (me : Receiver) (item : Heard) (heard : List Heard)
+            → IsAhead S.Stage F.Flash me item heard change.Chosen self.old flash.old
+            → LeavesOnly F.moment F.left_since flash.old flash.new
+            (HoldsHeard (geometry_of self.old.bank) me (item ∷ heard) (F.contents flash.old)) }
+        // Where a module is wrong a choice had begun, and nothing of the group stays staged.
+        ensures no_prev { S.IN_BANK ≡ true → F.tells → IfOk result (λ answer. IfBadModule answer
+            (HasNoPrev (geometry_of self.old.bank) (F.contents flash.new))) }
+        ensures forgotten { S.KEEPS ≡ true → F.tells → IfOk result (λ answer. IfBadModule answer
+            (StagesNone (geometry_of self.old.bank) (F.contents flash.new))) }
         ensures same_bank { UnlessInstalled result (SameBank self.old.bank self.new.bank) }
         ensures too_many { (me : Receiver) (item : Heard) (heard : List Heard) → IsAhead S.Stage F.Flash me item heard change.Chosen self.old flash.old
             → IsTrue (is_one_too_many me (item ∷ heard)) → (result ≡ Ok (Some verdict.Unsettled)) × (flash.new ≡ flash.old) }
@@ -121,7 +151,7 @@ impl<S: Stage> Collector<S> {
         self.choices += 1;
         match self.route.choice() {
             None => Ok(None),
-            Some(choice) => start(&mut self.stage, &mut self.bank, flash, &choice.plan),
+            Some(choice) => start(&mut self.stage, &mut self.bank, flash, choice),
         }
     }
 
@@ -139,7 +169,7 @@ impl<S: Stage> Collector<S> {
             → IfOk result (λ answer. IfNone answer (Collects S.Stage F.Flash me (heard_on pid section.now ∷ heard) self.new flash.new)) }
         ensures seen { (me : Receiver) (heard : List Heard)
             → IsAhead S.Stage F.Flash me (heard_on pid section.now) heard change.Same self.old flash.old
-            → IfOk result (IsSeen me (heard_on pid section.now ∷ heard)) }
+            → IfOk result (IsSeen (KnowsKept S.Stage F.Flash) me (heard_on pid section.now ∷ heard)) }
         ensures goes_on { F.tells → (me : Receiver) (heard : List Heard)
             → IsAhead S.Stage F.Flash me (heard_on pid section.now) heard change.Same self.old flash.old
             → IfOk result (GoesOn me (heard_on pid section.now ∷ heard) self.old.bank (F.contents flash.old) (F.contents flash.new)) }
@@ -153,6 +183,19 @@ impl<S: Stage> Collector<S> {
         ensures untouched { (me : Receiver) (heard : List Heard)
             → IsAhead S.Stage F.Flash me (heard_on pid section.now) heard change.Same self.old flash.old
             → beginnings me (heard_on pid section.now ∷ heard) ≡ 0 → flash.new ≡ flash.old }
+        // Of places it holds no more than it held, but those that were heard.
+        ensures holds { F.tells → (me : Receiver) (heard : List Heard)
+            → IsAhead S.Stage F.Flash me (heard_on pid section.now) heard change.Same self.old flash.old
+            → HoldsHeard (geometry_of self.old.bank) me (heard_on pid section.now ∷ heard) (F.contents flash.old) (F.contents flash.new) }
+        ensures holds_left { F.tells → (me : Receiver) (heard : List Heard)
+            → IsAhead S.Stage F.Flash me (heard_on pid section.now) heard change.Same self.old flash.old
+            → LeavesOnly F.moment F.left_since flash.old flash.new
+            (HoldsHeard (geometry_of self.old.bank) me (heard_on pid section.now ∷ heard) (F.contents flash.old)) }
+        // Where a module is wrong a choice had begun, and nothing of the group stays staged.
+        ensures no_prev { S.IN_BANK ≡ true → F.tells → IfOk result (λ answer. IfBadModule answer
+            (HasNoPrev (geometry_of self.old.bank) (F.contents flash.new))) }
+        ensures forgotten { S.KEEPS ≡ true → F.tells → IfOk result (λ answer. IfBadModule answer
+            (StagesNone (geometry_of self.old.bank) (F.contents flash.new))) }
         ensures same_bank { UnlessInstalled result (SameBank self.old.bank self.new.bank) }
         ensures lent { OnOk result (IsLent F.tells F.contents F.block_count F.block_len self.new.bank flash.new) }
         ensures geometry { geometry_of self.new.bank ≡ geometry_of self.old.bank }

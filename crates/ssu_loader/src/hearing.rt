@@ -3,6 +3,7 @@
 ghost use Rattle.std.specs.Prelude.{◌≡◌, List, IfNone, IfOk, OnOk, true};
 ghost use Rattle.flash_bank.specs.Bank.{IsLent, geometry_of};
 ghost use Rattle.flash_dev.specs.Moments.{LeavesOnly};
+ghost use Rattle.flash_stage.specs.Keeping.{StagesNone};
 ghost use Rattle.flash_stage.specs.Leaving.{SameBank};
 ghost use Rattle.ssu_io.specs.Faults.{HasCause};
 ghost use Rattle.ts_section.specs.Events.{Heard};
@@ -11,6 +12,8 @@ ghost use Rattle.ssu_route.specs.Queries.{after_all};
 ghost use Rattle.ssu_loader.specs.Collecting.{BeginsTooMany, Collects, IsUsable, StopsBefore};
 ghost use Rattle.ssu_route.specs.Windows.{beginnings};
 ghost use Rattle.ssu_loader.specs.Leaving.{GoesOn, IfBadModule, IfUnsettled, SectionsLeave, UnlessInstalled};
+ghost use Rattle.ssu_loader.specs.Life.{HoldsHeard};
+ghost use Rattle.ssu_loader.specs.Starting.{KnowsKept};
 ghost use Rattle.ssu_loader.specs.Storing.{HasNoPrev};
 ghost use Rattle.ssu_loader.specs.Verdicts.{IsSeen};
 
@@ -33,7 +36,7 @@ pub(crate) fn hear_each<S: Stage, F: Flash>(
     ensures collects { (me : Receiver) (heard : List Heard) → Collects S.Stage F.Flash me heard collector.old flash.old
         → IfOk result (λ answer. IfNone answer (Collects S.Stage F.Flash me (after_all pid each.now heard) collector.new flash.new)) }
     ensures seen { (me : Receiver) (heard : List Heard) → Collects S.Stage F.Flash me heard collector.old flash.old
-        → IfOk result (IsSeen me (after_all pid each.now heard)) }
+        → IfOk result (IsSeen (KnowsKept S.Stage F.Flash) me (after_all pid each.now heard)) }
     ensures goes_on { F.tells → (me : Receiver) (heard : List Heard) → Collects S.Stage F.Flash me heard collector.old flash.old
         → IfOk result (GoesOn me (after_all pid each.now heard) collector.old.bank (F.contents flash.old) (F.contents flash.new)) }
     ensures held { F.tells → (me : Receiver) (heard : List Heard) → Collects S.Stage F.Flash me heard collector.old flash.old
@@ -48,9 +51,17 @@ pub(crate) fn hear_each<S: Stage, F: Flash>(
         → BeginsTooMany me pid each.now heard → flash.new ≡ flash.old }
     ensures too_many { (me : Receiver) (heard : List Heard) → Collects S.Stage F.Flash me heard collector.old flash.old
         → IfOk result (λ answer. IfUnsettled answer (StopsBefore S.Stage F.Flash me (after_all pid each.now heard) flash.new)) }
-    // A choice had begun where a module is wrong.
-    ensures no_prev { S.IN_BANK ≡ true → F.tells → (me : Receiver) (heard : List Heard) → Collects S.Stage F.Flash me heard collector.old flash.old
-        → IfOk result (λ answer. IfBadModule answer (HasNoPrev (geometry_of collector.old.bank) (F.contents flash.new))) }
+    // Of places it holds no more than it held, but those that were heard.
+    ensures holds { F.tells → (me : Receiver) (heard : List Heard) → Collects S.Stage F.Flash me heard collector.old flash.old
+        → HoldsHeard (geometry_of collector.old.bank) me (after_all pid each.now heard) (F.contents flash.old) (F.contents flash.new) }
+    ensures holds_left { F.tells → (me : Receiver) (heard : List Heard) → Collects S.Stage F.Flash me heard collector.old flash.old
+        → LeavesOnly F.moment F.left_since flash.old flash.new
+        (HoldsHeard (geometry_of collector.old.bank) me (after_all pid each.now heard) (F.contents flash.old)) }
+    // Where a module is wrong a choice had begun, and nothing of the group stays staged.
+    ensures no_prev { S.IN_BANK ≡ true → F.tells → IfOk result (λ answer. IfBadModule answer
+        (HasNoPrev (geometry_of collector.old.bank) (F.contents flash.new))) }
+    ensures forgotten { S.KEEPS ≡ true → F.tells → IfOk result (λ answer. IfBadModule answer
+        (StagesNone (geometry_of collector.old.bank) (F.contents flash.new))) }
     ensures same_bank { UnlessInstalled result (SameBank collector.old.bank collector.new.bank) }
     ensures lent { OnOk result (IsLent F.tells F.contents F.block_count F.block_len collector.new.bank flash.new) }
     ensures geometry { geometry_of collector.new.bank ≡ geometry_of collector.old.bank }

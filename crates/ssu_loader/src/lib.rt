@@ -8,6 +8,7 @@ mod fault;
 mod gather;
 mod hearing;
 mod laws;
+mod life;
 mod loader;
 mod replaying;
 mod settle;
@@ -15,6 +16,7 @@ mod wrong;
 
 pub use fault::LoadFault;
 pub use laws::{decisions_are_one, packets_go_on, places_are_kept, window_counts_alone};
+pub use life::{life_holds, opening_is_what_is_staged, places_are_staged_or_heard, steps_go_on};
 pub use loader::Loader;
 pub use replaying::replay;
 pub use ssu_answer::{Chosen, Level, Verdict};

@@ -6,6 +6,7 @@ ghost use Rattle.flash_bank.specs.Bank.{IsLent, geometry_of};
 ghost use Rattle.flash_layout.specs.Layout.{IsInLimits, blocks_of};
 ghost use Rattle.flash_bank.specs.Runs.{OnlyReads};
 ghost use Rattle.flash_bank.specs.Sound.{IsSound, IsWorn};
+ghost use Rattle.flash_stage.specs.Keeping.{StagesNone};
 ghost use Rattle.flash_stage.specs.Leaving.{SameBank};
 ghost use Rattle.ssu_io.specs.Faults.{HasCause, Rose};
 ghost use Rattle.route_tables.specs.Values.{Receiver};
@@ -19,9 +20,12 @@ ghost use Rattle.ssu_loader.specs.declared.fault.LoadFault.TheVariants as load_f
 ghost use Rattle.ssu_answer.specs.declared.verdict.Verdict.TheVariants as verdict;
 ghost use Rattle.ssu_loader.specs.Faults.{IsOfOpening, WhereInLimits, WhereNotWorn, WhereSound};
 ghost use Rattle.ssu_loader.specs.Leaving.{GoesOn, IfBadModule, IfUnsettled, SectionsLeave, UnlessInstalled};
+ghost use Rattle.ssu_loader.specs.Remaining.{StagesStanding};
+ghost use Rattle.ssu_loader.specs.Life.{HoldsHeard};
+ghost use Rattle.ssu_loader.specs.Starting.{KnowsKept};
 ghost use Rattle.ssu_loader.specs.Storing.{HasNoPrev, Stores};
 ghost use Rattle.ssu_route.specs.Windows.{beginnings};
-ghost use Rattle.ssu_loader.specs.Verdicts.{IsSeen, IsVerdict};
+ghost use Rattle.ssu_loader.specs.Verdicts.{IsPartialVerdict, IsSeen, IsVerdict};
 
 use crate::collector::Collector;
 use crate::fault::LoadFault;
@@ -45,7 +49,7 @@ pub struct Loader<S> {
 }
 
 impl<S: Stage> Loader<S> {
-    ghost use Rattle.ssu_loader.specs.Loading.{Follows, IsFresh, IsUsable, KnowsPackets, bank_of, receiver_in};
+    ghost use Rattle.ssu_loader.specs.Loading.{Follows, IsFresh, IsUsable, KnowsPackets, KnowsPacketsHeard, bank_of, receiver_in};
 
     /// The box of this file, before the first packet. All memory of a replay is taken here, and the flash is not changed.
     #[inline(never)]
@@ -54,7 +58,7 @@ impl<S: Stage> Loader<S> {
         me: &BoxFile,
         flash: &mut F,
     ) -> Result<Loader<S>, LoadFault>
-        ensures follows { IfOk result (λ loader. Follows S.Stage F.Flash (receiver_in me.now loader) [] loader flash.new) }
+        ensures follows { IfOk result (λ loader. Follows S.Stage F.Flash (receiver_in S.KEEPS me.now loader (F.contents flash.old)) [] loader flash.new) }
         ensures geometry_is { IfOk result (λ loader. geometry_of (bank_of loader) ≡ blocks_of F.Flash flash.old) }
 
         // The number or the length of the blocks is out of the limits.
@@ -89,9 +93,10 @@ impl<S: Stage> Loader<S> {
         // No verdict is reached in the packets so far.
         ensures follows { (me : Receiver) (ps : List (List ℕ)) → Follows S.Stage F.Flash me ps self.old flash.old
             → IfOk result (λ answer. IfNone answer (Follows S.Stage F.Flash me (packet.now ∷ ps) self.new flash.new)) }
-        // Or one is reached. Whether or not the flash tells its contents, it is known which places were filled.
+        // Or one is reached. Where it is known what the flash kept, it is known which places were kept or filled, whether or not the flash tells
+        // its contents.
         ensures seen { (me : Receiver) (ps : List (List ℕ)) → Follows S.Stage F.Flash me ps self.old flash.old
-            → IfOk result (IsSeen me (heard_by me (packet.now ∷ ps))) }
+            → IfOk result (IsSeen (KnowsKept S.Stage F.Flash) me (heard_by me (packet.now ∷ ps))) }
         // The verdict that is reached in them, and what the flash holds then.
         ensures goes_on { F.tells → (me : Receiver) (ps : List (List ℕ)) → Follows S.Stage F.Flash me ps self.old flash.old
             → IfOk result (GoesOn me (heard_by me (packet.now ∷ ps)) (bank_of self.old) (F.contents flash.old) (F.contents flash.new)) }
@@ -114,13 +119,25 @@ impl<S: Stage> Loader<S> {
             → BeginsTooMany me (pid_in packet.now) (brought (Feed packet.now ∷ followed me ps)) (heard_by me ps) → flash.new ≡ flash.old }
         ensures too_many { (me : Receiver) (ps : List (List ℕ)) → Follows S.Stage F.Flash me ps self.old flash.old
             → IfOk result (λ answer. IfUnsettled answer (StopsBefore S.Stage F.Flash me (heard_by me (packet.now ∷ ps)) flash.new)) }
-        // While no verdict is reached, a stage in the bank has the places of the choice that stands there, and once a choice began, what
-        // boot took before the current image is gone.
+        // While no verdict is reached, a stage in the bank has the places of the choice that stands there, if its group is not one that is kept,
+        // and once a choice began, what boot took before the current image is gone.
         ensures stored { S.IN_BANK ≡ true → F.tells → (me : Receiver) (ps : List (List ℕ)) → Follows S.Stage F.Flash me ps self.old flash.old
             → IfOk result (λ answer. IfNone answer (Stores (blocks_of F.Flash flash.new) (F.contents flash.new) me (heard_by me (packet.now ∷ ps)))) }
-        // Where a module is wrong, a choice had begun.
-        ensures no_prev { S.IN_BANK ≡ true → F.tells → (me : Receiver) (ps : List (List ℕ)) → Follows S.Stage F.Flash me ps self.old flash.old
-            → IfOk result (λ answer. IfBadModule answer (HasNoPrev (geometry_of (bank_of self.old)) (F.contents flash.new))) }
+        // And of a stage that keeps its places, those of the choice that stands are staged, and no other.
+        ensures staged { S.KEEPS ≡ true → F.tells → (me : Receiver) (ps : List (List ℕ)) → Follows S.Stage F.Flash me ps self.old flash.old
+            → IfOk result (λ answer. IfNone answer
+            (StagesStanding (blocks_of F.Flash flash.new) (F.contents flash.new) me (heard_by me (packet.now ∷ ps)))) }
+        // Of places it holds no more than it held, but those that were heard, at any moment and also after a fault.
+        ensures holds { F.tells → (me : Receiver) (ps : List (List ℕ)) → Follows S.Stage F.Flash me ps self.old flash.old
+            → HoldsHeard (geometry_of (bank_of self.old)) me (heard_by me (packet.now ∷ ps)) (F.contents flash.old) (F.contents flash.new) }
+        ensures holds_left { F.tells → (me : Receiver) (ps : List (List ℕ)) → Follows S.Stage F.Flash me ps self.old flash.old
+            → LeavesOnly F.moment F.left_since flash.old flash.new
+            (HoldsHeard (geometry_of (bank_of self.old)) me (heard_by me (packet.now ∷ ps)) (F.contents flash.old)) }
+        // Where a module is wrong a choice had begun, and nothing of the group stays staged.
+        ensures no_prev { S.IN_BANK ≡ true → F.tells → IfOk result (λ answer. IfBadModule answer
+            (HasNoPrev (geometry_of (bank_of self.old)) (F.contents flash.new))) }
+        ensures forgotten { S.KEEPS ≡ true → F.tells → IfOk result (λ answer. IfBadModule answer
+            (StagesNone (geometry_of (bank_of self.old)) (F.contents flash.new))) }
         // The current record stays, unless a group was installed.
         ensures same_bank { UnlessInstalled result (SameBank (bank_of self.old) (bank_of self.new)) }
         ensures lent { OnOk result (IsLent F.tells F.contents F.block_count F.block_len (bank_of self.new) flash.new) }
@@ -140,6 +157,9 @@ impl<S: Stage> Loader<S> {
     pub fn end(&self) -> Verdict
         ensures verdict { (me : Receiver) (ps : List (List ℕ)) → KnowsPackets S.Stage me ps self.now
             → IsVerdict me (heard_by me ps) result }
+        // Whatever was kept, so much comes of what was heard.
+        ensures partial { (me : Receiver) (ps : List (List ℕ)) → KnowsPacketsHeard S.Stage me ps self.now
+            → IsPartialVerdict me (heard_by me ps) result }
     {
         self.collector.end()
     }
@@ -147,7 +167,7 @@ impl<S: Stage> Loader<S> {
     /// The loader over an open bank, before the first packet.
     fn with_bank(alloc: Global, me: &BoxFile, bank: Bank) -> Result<Loader<S>, LoadFault>
         ensures bank { IfOk result (λ loader. bank_of loader ≡ bank) }
-        ensures fresh { IfOk result (λ loader. IsFresh S.Stage (receiver_in me.now loader) loader) }
+        ensures fresh { (contents : List ℕ) → IfOk result (λ loader. IsFresh S.Stage (receiver_in S.KEEPS me.now loader contents) loader) }
         ensures memory { IfErr result (λ fault. fault ≡ load_fault.Memory) }
     {
         let stage = S::make(alloc, &bank)?;

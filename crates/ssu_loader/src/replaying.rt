@@ -12,6 +12,11 @@ ghost use Rattle.ts_input.specs.Packets.{IsOneMore, IsWithin};
 ghost use Rattle.ssu_loader.specs.Faults.{IsOfTaking};
 ghost use Rattle.ssu_loader.specs.Loading.{Follows, IsUsable, bank_of};
 ghost use Rattle.ssu_loader.specs.Replaying.{ReplaysBox};
+ghost use Rattle.flash_bank.specs.Sound.{Boot, BootOf, IsSound};
+ghost use Rattle.flash_layout.specs.Layout.{blocks_of};
+ghost use Rattle.ssu_loader.specs.Life.{LeavesStep};
+ghost use Rattle.ssu_loader.specs.Starting.{KnowsKept};
+ghost use Rattle.ssu_loader.specs.Stepping.{TakesStep};
 ghost use Rattle.ssu_loader.specs.Replays.{BeginsNone, BreaksAtPacket, ComesSeen, EndsWith, ReachesNone, ReplayLeaves};
 
 use crate::fault::LoadFault;
@@ -34,7 +39,15 @@ pub fn replay<A: Source, F: Flash, S: Stage>(
     air: &mut A,
     flash: &mut F,
 ) -> Result<Verdict, LoadFault>
-    ensures replays { ReplaysBox S.IN_BANK me.now result (source_seen A.Source air.old air.new) (flash_seen F.Flash flash.old flash.new) }
+    ensures replays { ReplaysBox S.IN_BANK S.KEEPS me.now result (source_seen A.Source air.old air.new) (flash_seen F.Flash flash.old flash.new) }
+    // Of sound contents each that is left, at any moment, is a step of a life.
+    ensures steps { F.tells → IsSound (blocks_of F.Flash flash.old) (F.contents flash.old) → (former : Boot)
+        → BootOf (blocks_of F.Flash flash.old) (F.contents flash.old) former
+        → LeavesStep me.now S.KEEPS (A.left air.old) (A.left air.new) (blocks_of F.Flash flash.old) former (F.contents flash.old) (F.contents flash.new) }
+    ensures steps_left { F.tells → IsSound (blocks_of F.Flash flash.old) (F.contents flash.old) → (former : Boot)
+        → BootOf (blocks_of F.Flash flash.old) (F.contents flash.old) former
+        → LeavesOnly F.moment F.left_since flash.old flash.new
+        (LeavesStep me.now S.KEEPS (A.left air.old) (A.left air.new) (blocks_of F.Flash flash.old) former (F.contents flash.old)) }
 {
     let mut loader = Loader::<S>::open(alloc, me, flash)?;
     take_packets(&mut loader, air, flash)
@@ -49,23 +62,28 @@ fn take_packets<A: Source, F: Flash, S: Stage>(
 ) -> Result<Verdict, LoadFault>
     requires usable { IsUsable S.Stage F.Flash loader.old flash.old }
     ensures ends { F.tells → (me : Receiver) → Follows S.Stage F.Flash me [] loader.old flash.old
-        → IfOk result (EndsWith S.IN_BANK me (A.left air.old) (A.left air.new) (geometry_of (bank_of loader.old))
+        → IfOk result (EndsWith S.IN_BANK S.KEEPS me (A.left air.old) (A.left air.new) (geometry_of (bank_of loader.old))
         (F.contents flash.old) (F.contents flash.new)) }
     ensures held { F.tells → (me : Receiver) → Follows S.Stage F.Flash me [] loader.old flash.old
         → ReplayLeaves me (A.left air.old) (A.left air.new) (geometry_of (bank_of loader.old)) (F.contents flash.old) (F.contents flash.new) }
     ensures left { F.tells → (me : Receiver) → Follows S.Stage F.Flash me [] loader.old flash.old
         → LeavesOnly F.moment F.left_since flash.old flash.new
         (ReplayLeaves me (A.left air.old) (A.left air.new) (geometry_of (bank_of loader.old)) (F.contents flash.old)) }
+    ensures steps { F.tells → (me : Receiver) → Follows S.Stage F.Flash me [] loader.old flash.old
+        → TakesStep me (A.left air.old) (A.left air.new) (geometry_of (bank_of loader.old)) (F.contents flash.old) (F.contents flash.new) }
+    ensures steps_left { F.tells → (me : Receiver) → Follows S.Stage F.Flash me [] loader.old flash.old
+        → LeavesOnly F.moment F.left_since flash.old flash.new
+        (TakesStep me (A.left air.old) (A.left air.new) (geometry_of (bank_of loader.old)) (F.contents flash.old)) }
     ensures read_fault { (me : Receiver) → Follows S.Stage F.Flash me [] loader.old flash.old
-        → IsErrOf result LoadFault.ReadFault → ReachesNone me (A.left air.old) (A.left air.new) IsWithin }
+        → IsErrOf result LoadFault.ReadFault → ReachesNone (KnowsKept S.Stage F.Flash) me (A.left air.old) (A.left air.new) IsWithin }
     ensures too_long { (me : Receiver) → Follows S.Stage F.Flash me [] loader.old flash.old
-        → IsErrOf result LoadFault.TooLong → ReachesNone me (A.left air.old) (A.left air.new) IsOneMore }
+        → IsErrOf result LoadFault.TooLong → ReachesNone (KnowsKept S.Stage F.Flash) me (A.left air.old) (A.left air.new) IsOneMore }
     ensures kept { F.tells → IsErrOf result LoadFault.ReadFault ⊎ IsErrOf result LoadFault.TooLong
         → KeepsBoot (geometry_of (bank_of loader.old)) (F.contents flash.old) (F.contents flash.new) }
     ensures flash_fault { (me : Receiver) → Follows S.Stage F.Flash me [] loader.old flash.old
-        → IsErrOf result LoadFault.FlashFault → BreaksAtPacket me (A.left air.old) (A.left air.new) }
+        → IsErrOf result LoadFault.FlashFault → BreaksAtPacket (KnowsKept S.Stage F.Flash) me (A.left air.old) (A.left air.new) }
     ensures seen { (me : Receiver) → Follows S.Stage F.Flash me [] loader.old flash.old
-        → IfOk result (ComesSeen me (A.left air.old) (A.left air.new)) }
+        → IfOk result (ComesSeen (KnowsKept S.Stage F.Flash) me (A.left air.old) (A.left air.new)) }
     ensures untouched { (me : Receiver) → Follows S.Stage F.Flash me [] loader.old flash.old
         → (taken rest : List ℕ) → (A.left air.old ≡ Some (taken ++ rest)) → (A.left air.new ≡ Some rest)
         → BeginsNone me taken → flash.new ≡ flash.old }

@@ -40,10 +40,10 @@ groups_count me heard kept stands =
 
 -- the DII that was chosen
 chosen_at : (me : Receiver) (heard : List Heard) (kept : Kept) (choice : Choice) → KeptStands me heard kept → kept.choice ≡ Some choice →
-    chosen_dii me heard ≡ dii_of kept.message.items
+    chosen_dii me heard ≡ dii_of choice.message.items
 unfolding chosen_dii
 chosen_at me heard kept choice stands e =
-    ap (option_and_then dii_of) (sym stands.message ∙ ap (λ c. message_if c kept.message.items) e)
+    ap (option_and_then dii_of) (sym stands.message ∙ ap message_if e)
 
 pub is_choice : (me : Receiver) (heard : List Heard) (kept : Kept) (choice : Choice) → KeptStands me heard kept → kept.choice ≡ Some choice → IsChoice me heard choice
 is_choice me heard kept choice stands e =
@@ -54,6 +54,7 @@ is_choice me heard kept choice stands e =
       group = wanted_is me heard ∙ ap first_usable (sym stands.groups) ∙ p.first;
       software = p.software ∙ ap (λ fs. offered_by choice.group (offers_of fs)) stands.groups ∙ ap (offered_by choice.group) (offers_found me heard);
       plan = p.plan;
+      message = sym stands.message ∙ ap message_if e;
     }
 
 pub has_usable : (me : Receiver) (heard : List Heard) (kept : Kept) (choice : Choice) → KeptStands me heard kept → kept.choice ≡ Some choice → HasUsableDii me heard choice
@@ -88,13 +89,13 @@ modules_some me heard kept choice count stands e is =
 pub modules_none : (me : Receiver) (heard : List Heard) (kept : Kept) → KeptStands me heard kept → kept.choice ≡ None → None ≡ option_map count_and_total (chosen_dii me heard)
 unfolding chosen_dii
 modules_none me heard kept stands e =
-    let none : level_7 me heard ≡ None = sym stands.message ∙ ap (λ c. message_if c kept.message.items) e in
+    let none : level_7 me heard ≡ None = sym stands.message ∙ ap message_if e in
     rw none refl
 
 pub stands_some : (me : Receiver) (heard : List Heard) (kept : Kept) (choice : Choice) → KeptStands me heard kept → kept.choice ≡ Some choice → true ≡ is_some (level_7 me heard)
 stands_some me heard kept choice stands e =
-    sym (ap is_some (sym stands.message ∙ ap (λ c. message_if c kept.message.items) e))
+    sym (ap is_some (sym stands.message ∙ ap message_if e))
 
 pub stands_none : (me : Receiver) (heard : List Heard) (kept : Kept) → KeptStands me heard kept → kept.choice ≡ None → false ≡ is_some (level_7 me heard)
 stands_none me heard kept stands e =
-    sym (ap is_some (sym stands.message ∙ ap (λ c. message_if c kept.message.items) e))
+    sym (ap is_some (sym stands.message ∙ ap message_if e))

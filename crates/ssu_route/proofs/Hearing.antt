@@ -101,7 +101,7 @@ begins_anew : (me : Receiver) (item : Heard) (earlier : List Heard) (old new : K
     KeptHears me item earlier new answer
 unfolding change_at
 begins_anew me item earlier old new answer stands groups none choice change =
-    let held_new : held new ≡ None = ap (λ c. message_if c new.message.items) choice in
+    let held_new : held new ≡ None = ap message_if choice in
     record {
       stands = record {
         groups = groups;

@@ -19,6 +19,7 @@ use Rattle.ssu_route.specs.declared.choice.Choice.{Choice}
 use Rattle.ssu_route.specs.Offers.{dii_if, dii_of, dii_said, same_group, same_offers}
 use Rattle.ssu_route.specs.Choosing.{is_usable, level_6, level_7, message_bytes, wanted}
 use Rattle.ssu_route.specs.Windows.{IsChoice, change_at, chosen_dii, offered_by}
+use Rattle.ssu_route.specs.Route.{IsPlanOfOwnMessage}
 use Rattle.ssu_route.specs.Kept.{first_usable, groups_found, message_for, usable_after}
 use Rattle.ssu_route.proofs.Same.{group_sound, offers_sound}
 use Rattle.ssu_route.proofs.Choices.{is_some-false, level_7-none, same_stays}
@@ -169,4 +170,19 @@ choice_same me item earlier choice e stood is = record {
   group = wanted_same me item earlier e stood ∙ is.group;
   software = is.software ∙ ap (offered_by choice.group) (sym (groups_same me item earlier stood));
   plan = is.plan;
+  message = same_stays me item earlier e ∙ is.message;
 }
+
+-- ---- the choice has the message of its DII
+
+pub of_own_message : (me : Receiver) (heard : List Heard) (choice : Choice) → IsChoice me heard choice → IsPlanOfOwnMessage me.bank_len choice
+unfolding chosen_dii dii_of
+of_own_message me heard choice is =
+    let own = is_own me heard choice.message.items is.message in
+    let same : own.dii ≡ is.dii = some_same own.dii is.dii (sym own.read ∙ sym (ap (option_and_then dii_of) is.message) ∙ is.read) in
+    record {
+      dii = is.dii;
+      reads = sym (ap (option_and_then dii_of) is.message) ∙ is.read;
+      usable = ap (λ d. refusal d me.bank_len) (sym same) ∙ own.usable;
+      lays = is.plan;
+    }

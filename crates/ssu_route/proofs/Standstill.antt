@@ -95,6 +95,7 @@ choice_stays me item earlier last choice is = record {
   group = wanted_is me (item ∷ earlier) ∙ ap first_usable last.found ∙ sym (wanted_is me earlier) ∙ is.group;
   software = is.software ∙ ap (offered_by choice.group) (sym last.groups);
   plan = is.plan;
+  message = last.modules ∙ is.message;
 }
 
 all_stays : (me : Receiver) (item : Heard) (earlier : List Heard) → IsUnmoved me item earlier → LastStay me item earlier → Stays me item earlier

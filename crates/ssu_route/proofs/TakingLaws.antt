@@ -54,19 +54,19 @@ pub chosen : (before : Option (List ℕ)) (m : List ℕ) → same_message before
 unfolding change_of
 chosen before m h = rw h refl
 
-message_if-none : (c : Option Choice) (bytes : List ℕ) → is_some c ≡ false → Same ≡ change_of (message_if c bytes) None
-message_if-none None bytes h = nothing_changes None
-message_if-none (Some c) bytes h = cc
+message_if-none : (c : Option Choice) → is_some c ≡ false → Same ≡ change_of (message_if c) None
+message_if-none None h = nothing_changes None
+message_if-none (Some c) h = cc
 
-message_if-some : (c : Option Choice) (bytes : List ℕ) → is_some c ≡ true → Lost ≡ change_of (message_if c bytes) None
-message_if-some None bytes h = cc
-message_if-some (Some c) bytes h = lost bytes
+message_if-some : (c : Option Choice) → is_some c ≡ true → Lost ≡ change_of (message_if c) None
+message_if-some None h = cc
+message_if-some (Some c) h = lost c.message.items
 
 pub ends_none : (kept : Kept) → is_some kept.choice ≡ false → Same ≡ change_of (held kept) None
-ends_none kept h = message_if-none kept.choice kept.message.items h
+ends_none kept h = message_if-none kept.choice h
 
 pub ends_some : (kept : Kept) → is_some kept.choice ≡ true → Lost ≡ change_of (held kept) None
-ends_some kept h = message_if-some kept.choice kept.message.items h
+ends_some kept h = message_if-some kept.choice h
 
 abbrev none_held : Option (List ℕ)
 none_held = None
@@ -209,16 +209,16 @@ pub take_held : (bank_len : ℕ) (d : DiiFields) (kept : Kept) (usable : ℕ →
     WherePlanned bank_len kept → dii_of d.message ≡ Some d → is_held d.message kept ≡ true → Takes bank_len (Some d) kept kept Same
 take_held bank_len d kept usable offers groups planned read is = by_choice kept.choice refl is
   where
-    of_choice : (choice : Choice) → kept.choice ≡ Some choice → bytes_eq kept.message.items d.message ≡ true → Takes bank_len (Some d) kept kept Same
+    of_choice : (choice : Choice) → kept.choice ≡ Some choice → bytes_eq choice.message.items d.message ≡ true → Takes bank_len (Some d) kept kept Same
     of_choice choice e equal =
         let p = planned choice e in
-        let bytes : kept.message.items ≡ d.message = (bytes_eq-Decides kept.message.items d.message).0 equal in
+        let bytes : choice.message.items ≡ d.message = (bytes_eq-Decides choice.message.items d.message).0 equal in
         let same : p.dii ≡ d = some_same p.dii d (sym p.read ∙ ap dii_of bytes ∙ read) in
         let own : d.transaction ≡ choice.group = ap (λ (x : DiiFields). x.transaction) (sym same) ∙ p.own in
         let usable_dii : refusal d bank_len ≡ None = ap (λ x. refusal x bank_len) (sym same) ∙ p.usable in
         let first : first_usable kept.groups.items ≡ Some d.transaction = p.first ∙ ap some (sym own) in
         let stands_so : usable d.transaction ≡ true = seen_first usable offers d.transaction (ap first_usable (sym groups) ∙ first) in
-        let held_is : held kept ≡ Some d.message = ap (λ c. message_if c kept.message.items) e ∙ ap some bytes in
+        let held_is : held kept ≡ Some d.message = ap message_if e ∙ ap some bytes in
         let own_message : message_for (first_usable kept.groups.items) (Some d) ≡ Some d.message =
         message_own (first_usable kept.groups.items) d (ap (λ g. same_group g (Some d.transaction)) first ∙ group_same (some d.transaction)) in
         record {
@@ -229,14 +229,14 @@ take_held bank_len d kept usable offers groups planned read is = by_choice kept.
           change = nothing_changes (held kept);
         }
 
-    by_choice : (c : Option Choice) → kept.choice ≡ c → held_by d.message kept.message.items c ≡ true → Takes bank_len (Some d) kept kept Same
+    by_choice : (c : Option Choice) → kept.choice ≡ c → held_by d.message c ≡ true → Takes bank_len (Some d) kept kept Same
     by_choice None e h = cc
     by_choice (Some choice) e h = of_choice choice e h
 
 -- what stays of a choice that has not lapsed
-replanned : (bank_len : ℕ) (old mid : List Found) (message : List ℕ) (choice : Choice) → IsPlanned bank_len old message choice →
-    offers_of mid ≡ offers_of old → first_usable mid ≡ Some choice.group → IsPlanned bank_len mid message choice
-replanned bank_len old mid message choice p offers first = record {
+replanned : (bank_len : ℕ) (old mid : List Found) (choice : Choice) → IsPlanned bank_len old choice →
+    offers_of mid ≡ offers_of old → first_usable mid ≡ Some choice.group → IsPlanned bank_len mid choice
+replanned bank_len old mid choice p offers first = record {
   dii = p.dii;
   read = p.read;
   usable = p.usable;
@@ -252,10 +252,10 @@ either_none false = refl
 
 -- the DII is of a group that is not the first that stands
 pub take_other : (bank_len : ℕ) (d : DiiFields) (usable : Bool) (old mid new : Kept) (answer : Change) →
-    mid.groups.items ≡ map (mark_if d.transaction usable) old.groups.items → mid.message ≡ old.message → mid.choice ≡ old.choice →
+    mid.groups.items ≡ map (mark_if d.transaction usable) old.groups.items → mid.choice ≡ old.choice →
     usable ≡ not (is_some (refusal d bank_len)) → is_first d.transaction mid.groups.items ≡ false → EndsLapsed mid new answer →
     WherePlanned bank_len old → Takes bank_len (Some d) old new answer
-take_other bank_len d usable old mid new answer groups message choice says other ended planned = by_choice old.choice refl
+take_other bank_len d usable old mid new answer groups choice says other ended planned = by_choice old.choice refl
   where
     marks : new.groups.items ≡ marked bank_len (Some d) old.groups.items
     marks = ended.groups ∙ groups ∙ ap (λ b. map (mark_if d.transaction b) old.groups.items) says
@@ -270,7 +270,7 @@ take_other bank_len d usable old mid new answer groups message choice says other
     gone : new.choice ≡ None → ((if same_group (first_usable new.groups.items) (first_usable old.groups.items) then held old else None) ≡ None) →
         answer ≡ change_of (held old) None → Takes bank_len (Some d) old new answer
     gone none before said =
-        let held_new : held new ≡ None = ap (λ c. message_if c new.message.items) none in
+        let held_new : held new ≡ None = ap message_if none in
         record {
           groups = marks;
           message = held_new ∙ sym (rw no_message before);
@@ -281,7 +281,7 @@ take_other bank_len d usable old mid new answer groups message choice says other
     of_none : old.choice ≡ None → Takes bank_len (Some d) old new answer
     of_none e =
         let stays = ended.stays (ap (lapses mid.groups.items) (choice ∙ e)) in
-        let held_old : held old ≡ None = ap (λ c. message_if c old.message.items) e in
+        let held_old : held old ≡ None = ap message_if e in
         gone (ap (λ (k : Kept). k.choice) stays.0 ∙ choice ∙ e) (rw held_old (either_none (same_group (first_usable new.groups.items) (first_usable old.groups.items))))
         (stays.1 ∙ nothing_changes None ∙ ap (λ m. change_of m None) (sym held_old))
 
@@ -289,19 +289,18 @@ take_other bank_len d usable old mid new answer groups message choice says other
     of_lapsed c e lapsed =
         let ends = ended.ends (ap (lapses mid.groups.items) (choice ∙ e) ∙ ap not lapsed) in
         let p = planned c e in
-        let held_old : held old ≡ Some old.message.items = ap (λ x. message_if x old.message.items) e in
+        let held_old : held old ≡ Some c.message.items = ap message_if e in
         let differs : same_group (first_usable new.groups.items) (first_usable old.groups.items) ≡ false =
         ap (λ fs. same_group (first_usable fs) (first_usable old.groups.items)) ended.groups ∙ ap (same_group (first_usable mid.groups.items)) p.first ∙ lapsed in
-        gone ends.0 (rw differs refl) (ends.1 ∙ lost old.message.items ∙ ap (λ m. change_of m None) (sym held_old))
+        gone ends.0 (rw differs refl) (ends.1 ∙ lost c.message.items ∙ ap (λ m. change_of m None) (sym held_old))
 
     of_same : (c : Choice) → old.choice ≡ Some c → same_group (first_usable mid.groups.items) (Some c.group) ≡ true → Takes bank_len (Some d) old new answer
     of_same c e same =
         let stays = ended.stays (ap (lapses mid.groups.items) (choice ∙ e) ∙ ap not same) in
         let p = planned c e in
         let choice_new : new.choice ≡ Some c = ap (λ (k : Kept). k.choice) stays.0 ∙ choice ∙ e in
-        let bytes : new.message.items ≡ old.message.items = ap (λ (k : Kept). k.message.items) stays.0 ∙ ap (λ m. m.items) message in
-        let held_old : held old ≡ Some old.message.items = ap (λ x. message_if x old.message.items) e in
-        let held_new : held new ≡ Some old.message.items = ap (λ x. message_if x new.message.items) choice_new ∙ ap some bytes in
+        let held_old : held old ≡ Some c.message.items = ap message_if e in
+        let held_new : held new ≡ Some c.message.items = ap message_if choice_new in
         let first_new : first_usable new.groups.items ≡ Some c.group = ap first_usable ended.groups ∙ first_same (first_usable mid.groups.items) c.group same in
         let same_first : same_group (first_usable new.groups.items) (first_usable old.groups.items) ≡ true =
         ap (λ g. same_group g (first_usable old.groups.items)) first_new ∙ ap (same_group (some c.group)) p.first ∙ group_same (some c.group) in
@@ -310,10 +309,8 @@ take_other bank_len d usable old mid new answer groups message choice says other
           message = held_new ∙ sym (rw (no_message, same_first) held_old);
           planned = λ x f.
               let is : c ≡ x = some_same c x (sym choice_new ∙ f) in
-              subst (λ (y : Choice). IsPlanned bank_len new.groups.items new.message.items y) is
-              (subst (λ (m : List ℕ). IsPlanned bank_len new.groups.items m c) (sym bytes)
-              (replanned bank_len old.groups.items new.groups.items old.message.items c p offers_stay first_new));
-          change = stays.1 ∙ nothing_changes (some old.message.items) ∙ ap (λ m. change_of m (some old.message.items)) (sym held_old) ∙ ap (change_of (held old)) (sym held_new);
+              subst (λ (y : Choice). IsPlanned bank_len new.groups.items y) is (replanned bank_len old.groups.items new.groups.items c p offers_stay first_new);
+          change = stays.1 ∙ nothing_changes (some c.message.items) ∙ ap (λ m. change_of m (some c.message.items)) (sym held_old) ∙ ap (change_of (held old)) (sym held_new);
         }
 
     of_some : (c : Choice) → old.choice ≡ Some c → (b : Bool) → same_group (first_usable mid.groups.items) (Some c.group) ≡ b → Takes bank_len (Some d) old new answer
@@ -324,10 +321,10 @@ take_other bank_len d usable old mid new answer groups message choice says other
     by_choice None e = of_none e
     by_choice (Some c) e = of_some c e (same_group (first_usable mid.groups.items) (Some c.group)) refl
 
-not_held : (message bytes : List ℕ) (c : Option Choice) → held_by message bytes c ≡ false → same_message (message_if c bytes) (Some message) ≡ false
+not_held : (message : List ℕ) (c : Option Choice) → held_by message c ≡ false → same_message (message_if c) (Some message) ≡ false
 unfolding same_option
-not_held message bytes None h = refl
-not_held message bytes (Some c) h = h
+not_held message None h = refl
+not_held message (Some c) h = h
 
 -- the DII is of the first group that stands, and is not held already
 pub take_chosen : (bank_len : ℕ) (d : DiiFields) (plan : GroupPlan) (old mid new : Kept) (answer : Change) →
@@ -339,12 +336,12 @@ take_chosen bank_len d plan old mid new answer groups usable planned first read 
   message = held_new ∙ sym (rw own_message refl);
   planned = λ c e.
       let is : choice_of d plan mid.groups.items ≡ c = some_same (choice_of d plan mid.groups.items) c (sym chooses.choice ∙ e) in
-      subst (λ (y : Choice). IsPlanned bank_len new.groups.items new.message.items y) is made;
+      subst (λ (y : Choice). IsPlanned bank_len new.groups.items y) is made;
   change = chooses.change ∙ sym (chosen (held old) d.message differs) ∙ ap (change_of (held old)) (sym held_new);
 }
   where
     held_new : held new ≡ Some d.message
-    held_new = ap (λ c. message_if c new.message.items) chooses.choice ∙ ap some chooses.message
+    held_new = ap message_if chooses.choice
 
     first_new : first_usable new.groups.items ≡ Some d.transaction
     first_new = ap first_usable chooses.groups ∙ first_same (first_usable mid.groups.items) d.transaction first
@@ -353,12 +350,12 @@ take_chosen bank_len d plan old mid new answer groups usable planned first read 
     own_message = message_own (first_usable new.groups.items) d (ap (λ g. same_group g (Some d.transaction)) first_new ∙ group_same (some d.transaction))
 
     differs : same_message (held old) (Some d.message) ≡ false
-    differs = not_held d.message old.message.items old.choice other
+    differs = not_held d.message old.choice other
 
-    made : IsPlanned bank_len new.groups.items new.message.items (choice_of d plan mid.groups.items)
+    made : IsPlanned bank_len new.groups.items (choice_of d plan mid.groups.items)
     made = record {
       dii = d;
-      read = ap dii_of chooses.message ∙ read;
+      read = read;
       usable = usable;
       own = refl;
       first = first_new;

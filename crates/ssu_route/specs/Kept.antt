@@ -70,14 +70,14 @@ groups_found me heard =
 
 -- ---- the message of a choice
 
-abbrev pub message_if : Option Choice → List ℕ → Option (List ℕ)
-message_if None bytes = None
-message_if (Some choice) bytes = Some bytes
+abbrev pub message_if : Option Choice → Option (List ℕ)
+message_if None = None
+message_if (Some choice) = Some choice.message.items
 
--- The choice is of the first group that stands, with its software, and the plan is that of the DII with this message.
-pub record IsPlanned (bank_len : ℕ) (groups : List Found) (message : List ℕ) (choice : Choice) : Type 0 where
+-- The choice is of the first group that stands, with its software, and the plan is that of the DII with its message.
+pub record IsPlanned (bank_len : ℕ) (groups : List Found) (choice : Choice) : Type 0 where
   pub dii : DiiFields
-  pub read : dii_of message ≡ Some dii
+  pub read : dii_of choice.message.items ≡ Some dii
   pub usable : refusal dii bank_len ≡ None
   pub own : dii.transaction ≡ choice.group
   pub first : first_usable groups ≡ Some choice.group

@@ -1,7 +1,7 @@
 -- What a section does to a route, and what the route stands for.
 use Rattle.std.specs.Prelude.{◌≡◌, ℕ, List, Some, None, ◌∷◌, Option, unwrap_or, Bool, true, false, not, map}
 use Rattle.ts_section.specs.Events.{Heard}
-use Rattle.dsmcc_msg.specs.Control.{DiiFields, dsi}
+use Rattle.dsmcc_msg.specs.Control.{DiiFields, dii_message, dsi}
 use Rattle.ssu_group.specs.Refusal.{refusal}
 use Rattle.ssu_group.specs.Lays.{IsPlanOf}
 use Rattle.route_tables.specs.Values.{Receiver}
@@ -27,15 +27,15 @@ use Rattle.ssu_route.specs.declared.found.Found.{Found}
 
 -- the message of the choice that is kept
 abbrev pub held : Kept → Option (List ℕ)
-held kept = message_if kept.choice kept.message.items
+held kept = message_if kept.choice
 
-abbrev pub held_by : List ℕ → List ℕ → Option Choice → Bool
-held_by message bytes None = false
-held_by message bytes (Some choice) = bytes_eq bytes message
+abbrev pub held_by : List ℕ → Option Choice → Bool
+held_by message None = false
+held_by message (Some choice) = bytes_eq choice.message.items message
 
 -- Is it the message of the choice that is kept?
 abbrev pub is_held : List ℕ → Kept → Bool
-is_held message kept = held_by message kept.message.items kept.choice
+is_held message kept = held_by message kept.choice
 
 abbrev pub lapses : List Found → Option Choice → Bool
 lapses groups None = false
@@ -47,7 +47,7 @@ is_lapsed kept = lapses kept.groups.items kept.choice
 
 abbrev pub WherePlanned : ℕ → Kept → Type 0
 WherePlanned bank_len kept =
-    (choice : Choice) → kept.choice ≡ Some choice → IsPlanned bank_len kept.groups.items kept.message.items choice
+    (choice : Choice) → kept.choice ≡ Some choice → IsPlanned bank_len kept.groups.items choice
 
 -- The groups stay, and a DII is heard or none.
 pub record Takes (bank_len : ℕ) (d : Option DiiFields) (old new : Kept) (answer : Change) : Type 0 where
@@ -62,18 +62,18 @@ pub record EndsLapsed (old new : Kept) (answer : Change) : Type 0 where
   pub stays : is_lapsed old ≡ false → (new ≡ old) × (answer ≡ Same)
   pub ends : is_lapsed old ≡ true → (new.choice ≡ None) × (answer ≡ Lost)
 
--- the choice of this plan, for the group of the DII
+-- the choice of this plan, for the group of the DII, with its message
 abbrev pub choice_of : DiiFields → GroupPlan → List Found → Choice
 choice_of d plan groups = record {
   group = d.transaction;
   software = offered_by d.transaction (offers_of groups);
   plan = plan;
+  message = record { items = d.message };
 }
 
 -- The group of the DII is chosen.
 pub record Chooses (d : DiiFields) (plan : GroupPlan) (old new : Kept) (answer : Change) : Type 0 where
   pub groups : new.groups.items ≡ old.groups.items
-  pub message : new.message.items ≡ d.message
   pub choice : new.choice ≡ Some (choice_of d plan old.groups.items)
   pub change : answer ≡ Chosen
 
@@ -126,6 +126,13 @@ pub record HasUsableDii (me : Receiver) (heard : List Heard) (choice : Choice) :
   pub usable : refusal dii me.bank_len ≡ None
   pub own : dii.transaction ≡ choice.group
   pub plan : IsPlanOf dii choice.plan
+
+-- The message of the choice spells a DII that can be used for a bank of this length, and the plan is that of the DII.
+pub record IsPlanOfOwnMessage (bank_len : ℕ) (choice : Choice) : Type 0 where
+  pub dii : DiiFields
+  pub reads : dii_message.of choice.message.items ≡ Some dii
+  pub usable : refusal dii bank_len ≡ None
+  pub lays : IsPlanOf dii choice.plan
 
 -- The message is of a DII of the wanted group, which can be used for the bank.
 pub record IsOwnMessage (me : Receiver) (heard : List Heard) (message : List ℕ) : Type 0 where

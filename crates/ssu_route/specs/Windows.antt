@@ -87,10 +87,11 @@ software_of o = o.software
 unfoldable pub offered_by : ℕ → List Offer → SwId
 offered_by group offers = unwrap_or (option_and_then software_of (find (is_group group) offers)) no_software
 
--- The choice is the wanted group, with the software that it offers and the plan that its DII gives.
+-- The choice is the wanted group, with the software that it offers, the message of its DII and the plan that this gives.
 pub record IsChoice (me : Receiver) (heard : List Heard) (choice : Choice) : Type 0 where
   pub dii : DiiFields
   pub read : chosen_dii me heard ≡ Some dii
   pub group : wanted me heard ≡ Some choice.group
   pub software : choice.software ≡ offered_by choice.group (level_6 me heard)
   pub plan : IsPlanOf dii choice.plan
+  pub message : level_7 me heard ≡ Some choice.message.items

@@ -1,5 +1,6 @@
 //! The group that the box wants now.
 
+use arrayvec::ArrayVec;
 use ssu_compat::SwId;
 use ssu_group::GroupPlan;
 
@@ -12,4 +13,6 @@ pub struct Choice {
     pub software: SwId,
     /// Where the modules and blocks of the group stand.
     pub plan: GroupPlan,
+    /// The message of the DII that the plan is of, from its first byte to its last.
+    pub message: ArrayVec<u8, 4084>,
 }

@@ -32,8 +32,6 @@ const CONTROL_TABLE: u8 = 0x3B;
 pub(crate) struct Kept {
     /// The groups that the box accepts.
     pub(crate) groups: FoundGroups,
-    /// Where there is a choice, the message of the DII that it comes from.
-    message: ArrayVec<u8, 4096>,
     /// The group that the box wants, once its DII was heard.
     pub(crate) choice: Option<Choice>,
 }
@@ -50,7 +48,6 @@ impl Kept {
     {
         Kept {
             groups: ArrayVec::new(),
-            message: ArrayVec::new(),
             choice: None,
         }
     }
@@ -59,8 +56,8 @@ impl Kept {
     fn holds(&self, message: &[u8]) -> bool
         ensures { result ≡ is_held message.now self.now }
     {
-        match self.choice {
-            Some(_) => self.message.as_slice() == message,
+        match &self.choice {
+            Some(choice) => choice.message.as_slice() == message,
             None => false,
         }
     }
@@ -102,16 +99,16 @@ impl Kept {
     /// Chooses the group of the DII.
     #[inline]
     fn choose(&mut self, dii: &Dii<'_>, plan: GroupPlan) -> Change
-        requires { length dii.now.message ≤ 4096 }
+        requires { length dii.now.message ≤ 4084 }
         ensures { Chooses dii.now plan self.old self.new result }
     {
-        set_bytes(&mut self.message, dii.message());
         let group = group_of(dii);
         let software = software_of(self.groups.as_slice(), group);
         self.choice = Some(Choice {
             group,
             software,
             plan,
+            message: bytes_of(dii.message()),
         });
         Change::Chosen
     }
@@ -119,7 +116,7 @@ impl Kept {
     /// Chooses the group of the DII, if it is the wanted one.
     #[inline]
     fn choose_if_wanted(&mut self, dii: &Dii<'_>, plan: GroupPlan) -> Change
-        requires { length dii.now.message ≤ 4096 }
+        requires { length dii.now.message ≤ 4084 }
         ensures first { is_first dii.now.transaction self.old.groups.items ≡ true → Chooses dii.now plan self.old self.new result }
         ensures other { is_first dii.now.transaction self.old.groups.items ≡ false → EndsLapsed self.old self.new result }
     {
@@ -133,7 +130,7 @@ impl Kept {
     /// Takes up what a DII says of its group, which is one of the groups.
     fn plan_dii(&mut self, bank_len: u32, dii: &Dii<'_>) -> Change
         requires read { dii_of dii.now.message ≡ Some dii.now }
-        requires short { length dii.now.message ≤ 4096 }
+        requires short { length dii.now.message ≤ 4084 }
         ensures takes { WherePlanned bank_len self.old → is_held dii.now.message self.old ≡ false
             → Takes bank_len (Some dii.now) self.old self.new result }
     {
@@ -152,7 +149,7 @@ impl Kept {
     /// Takes up what a DII says of its group. One that is held already says nothing new, and is not planned again.
     fn take_dii(&mut self, bank_len: u32, dii: &Dii<'_>) -> Change
         requires read { dii_of dii.now.message ≡ Some dii.now }
-        requires short { length dii.now.message ≤ 4096 }
+        requires short { length dii.now.message ≤ 4084 }
         ensures takes { (usable : ℕ → Bool) (offers : List Offer) → self.old.groups.items ≡ map (seen usable) offers
             → WherePlanned bank_len self.old → Takes bank_len (Some dii.now) self.old self.new result }
     {
@@ -307,12 +304,13 @@ fn is_same_carousel(one: &Option<Carousel>, other: &Option<Carousel>) -> bool
     }
 }
 
-fn set_bytes(bytes: &mut ArrayVec<u8, 4096>, to: &[u8])
-    requires { length to.now ≤ 4096 }
-    ensures { bytes.new.items ≡ to.now }
+fn bytes_of(message: &[u8]) -> ArrayVec<u8, 4084>
+    requires { length message.now ≤ 4084 }
+    ensures { result.items ≡ message.now }
 {
-    bytes.clear();
-    let _ = bytes.try_extend_from_slice(to);
+    let mut bytes = ArrayVec::new();
+    let _ = bytes.try_extend_from_slice(message);
+    bytes
 }
 
 /// Is it a section of control messages, by its table_id?
@@ -337,7 +335,7 @@ fn group_of(dii: &Dii<'_>) -> u32
 fn dii_in(section: &[u8]) -> Option<Dii<'_>>
     ensures exact { result ≡ dii.of section.now }
     ensures read { IfSome result (λ d. dii_of d.message ≡ Some d) }
-    ensures short { IfSome result (λ d. length d.message ≤ 4096) }
+    ensures short { IfSome result (λ d. length d.message ≤ 4084) }
 {
     Dii::read(section)
 }

@@ -7,7 +7,7 @@ ghost use Rattle.route_tables.specs.Levels.{level_5};
 ghost use Rattle.ssu_route.specs.declared.change.Change.TheVariants.{Same, Chosen, Lost};
 ghost use Rattle.ssu_route.specs.Choosing.{level_7};
 ghost use Rattle.ssu_route.specs.declared.choice.Choice.{Choice};
-ghost use Rattle.ssu_route.specs.Route.{IsOwnMessage};
+ghost use Rattle.ssu_route.specs.Route.{IsOwnMessage, IsPlanOfOwnMessage};
 ghost use Rattle.ssu_route.specs.Windows.{IsChoice, begins_at, beginnings, change_at, window};
 ghost use Rattle.ssu_route.specs.Queries.{carousel_pid};
 
@@ -59,4 +59,9 @@ pub fn choices_stay()
     ensures own { (me : Receiver) (heard : List Heard) (message : List ℕ) → level_7 me heard ≡ Some message → IsOwnMessage me heard message }
     ensures stays { (me : Receiver) (item : Heard) (earlier : List Heard) (choice : Choice) → change_at me item earlier ≡ Same
         → IsSome (level_7 me (item ∷ earlier)) → IsChoice me earlier choice → IsChoice me (item ∷ earlier) choice }
+{}
+
+/// The plan of a choice is that of its message, which spells a DII that can be used for the bank.
+pub fn choices_have_messages()
+    ensures { (me : Receiver) (heard : List Heard) (choice : Choice) → IsChoice me heard choice → IsPlanOfOwnMessage me.bank_len choice }
 {}

@@ -16,7 +16,7 @@ pub use box_file::{BoxFault, BoxFile, FieldName};
 pub use change::Change;
 pub use choice::Choice;
 pub use heap::HeapRoute;
-pub use laws::{changes_tell, choices_count, choices_stay, windows_grow};
+pub use laws::{changes_tell, choices_count, choices_have_messages, choices_stay, windows_grow};
 pub use report::Report;
 pub use route::Route;
 pub use ssu_answer::Level;

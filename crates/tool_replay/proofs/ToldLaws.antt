@@ -45,10 +45,10 @@ no_box_is_absent T (Some files) other of absence told none = absurd of
 
 -- ---- the answers
 
-module _ (in_bank : Bool) (shelf : ShelfSeen) (air : SourceSeen) (flash : FlashSeen) (out : SinkSeen) where
+module _ (in_bank keeps : Bool) (shelf : ShelfSeen) (air : SourceSeen) (flash : FlashSeen) (out : SinkSeen) where
   -- ---- a verdict
 
-  pub says_verdict : (v : Verdict) → Tells in_bank v Gains shelf air flash out → Says in_bank (status_of v) shelf air flash out
+  pub says_verdict : (v : Verdict) → Tells in_bank keeps v Gains shelf air flash out → Says in_bank keeps (status_of v) shelf air flash out
   says_verdict (verdict.Installed chosen) told = told
   says_verdict (verdict.Nothing level) told = told
   says_verdict (verdict.Incomplete chosen missing) told = told
@@ -64,7 +64,7 @@ module _ (in_bank : Bool) (shelf : ShelfSeen) (air : SourceSeen) (flash : FlashS
 
   -- ---- no verdict
 
-  pub says_fault : (e : LoadFault) → Refuses e shelf air flash out → Says in_bank (status_of_fault e) shelf air flash out
+  pub says_fault : (e : LoadFault) → Refuses keeps e shelf air flash out → Says in_bank keeps (status_of_fault e) shelf air flash out
   says_fault load_fault.Geometry is = is
   says_fault load_fault.FlashFault is = is
   says_fault load_fault.Foreign is = is
@@ -73,7 +73,7 @@ module _ (in_bank : Bool) (shelf : ShelfSeen) (air : SourceSeen) (flash : FlashS
   says_fault load_fault.ReadFault is = is
   says_fault load_fault.TooLong is = is
 
-  pub has_failed : (box_file : BoxFile) (e : LoadFault) → Fails box_file air flash e → NoneFailed shelf air flash out → ¬ IsFault (status_of_fault e)
+  pub has_failed : (box_file : BoxFile) (e : LoadFault) → Fails keeps box_file air flash e → NoneFailed shelf air flash out → ¬ IsFault (status_of_fault e)
   has_failed box_file load_fault.Geometry fails well is = is
   has_failed box_file load_fault.FlashFault fails well is = well.flash_well fails.1.0
   has_failed box_file load_fault.Foreign fails well is = is
@@ -107,7 +107,7 @@ module _ (in_bank : Bool) (shelf : ShelfSeen) (air : SourceSeen) (flash : FlashS
   -- ---- no box
 
   pub says_no_box : (T : Type 0) (s : Status) → IsBoxRefusal s → TellsAbsence {T = T} shelf.held box_name (Err s) → OnAbsent s (λ told. told ≡ box_name)
-      → OnBoxRefused s (λ field. RefusesBox shelf.held field) → IsNotCalled air flash out → IsNotBegun air flash → Says in_bank s shelf air flash out
+      → OnBoxRefused s (λ field. RefusesBox shelf.held field) → IsNotCalled air flash out → IsNotBegun air flash → Says in_bank keeps s shelf air flash out
   says_no_box T (Absent name) of absence told refused none begun = (none, (told, absence_lacks T shelf.held name absence told))
   says_no_box T (BoxRefused field) of absence told refused none begun = (none, refused)
   says_no_box T ShelfFault of absence told refused none begun = none

@@ -33,18 +33,18 @@ status_of_fault load_fault.ReadFault = ReadFault
 status_of_fault load_fault.TooLong = TooLong
 
 -- The shelf told a box, this verdict came for it, and of its line this was printed.
-pub record Tells (in_bank : Bool) (verdict : Verdict) (Prints : Option (List ℕ) → Option (List ℕ) → List ℕ → Type 0) (shelf : ShelfSeen)
+pub record Tells (in_bank keeps : Bool) (verdict : Verdict) (Prints : Option (List ℕ) → Option (List ℕ) → List ℕ → Type 0) (shelf : ShelfSeen)
     (air : SourceSeen) (flash : FlashSeen) (out : SinkSeen) : Type 0 where
   pub box_file : BoxFile
   pub told : TellsBox shelf.held box_file
-  pub ends : Ends in_bank box_file air flash verdict
+  pub ends : Ends in_bank keeps box_file air flash verdict
   pub prints : Prints out.got out.got_after (verdict_line verdict)
 
 -- The shelf told a box, and this is why no verdict came for it. Nothing was printed.
-pub record Refuses (fault : LoadFault) (shelf : ShelfSeen) (air : SourceSeen) (flash : FlashSeen) (out : SinkSeen) : Type 0 where
+pub record Refuses (keeps : Bool) (fault : LoadFault) (shelf : ShelfSeen) (air : SourceSeen) (flash : FlashSeen) (out : SinkSeen) : Type 0 where
   pub box_file : BoxFile
   pub told : TellsBox shelf.held box_file
-  pub fails : Fails box_file air flash fault
+  pub fails : Fails keeps box_file air flash fault
   pub unprinted : out.same
 
 -- Source, flash and output were not called.
@@ -52,27 +52,32 @@ abbrev pub IsNotCalled : SourceSeen → FlashSeen → SinkSeen → Type 0
 IsNotCalled air flash out = air.same × (flash.same × out.same)
 
 -- What the answer says. There is no other one.
-abbrev pub Says : Bool → Status → ShelfSeen → SourceSeen → FlashSeen → SinkSeen → Type 0
-Says in_bank (Installed chosen) shelf air flash out = Tells in_bank (verdict.Installed chosen) Gains shelf air flash out
-Says in_bank (Nothing level) shelf air flash out = Tells in_bank (verdict.Nothing level) Gains shelf air flash out
-Says in_bank (Incomplete chosen missing) shelf air flash out = Tells in_bank (verdict.Incomplete chosen missing) Gains shelf air flash out
-Says in_bank (BadModule id want found) shelf air flash out = Tells in_bank (verdict.BadModule id want found) Gains shelf air flash out
-Says in_bank Unsettled shelf air flash out = Tells in_bank verdict.Unsettled Gains shelf air flash out
-Says in_bank WriteFault shelf air flash out =
-    Rose out.faults out.faults_after × ((told : Verdict) × Tells in_bank told GainsPrefix shelf air flash out)
-Says in_bank ReadFault shelf air flash out = Refuses load_fault.ReadFault shelf air flash out
-Says in_bank TooLong shelf air flash out = Refuses load_fault.TooLong shelf air flash out
-Says in_bank FlashFault shelf air flash out = Refuses load_fault.FlashFault shelf air flash out
-Says in_bank Geometry shelf air flash out = Refuses load_fault.Geometry shelf air flash out
-Says in_bank Foreign shelf air flash out = Refuses load_fault.Foreign shelf air flash out
-Says in_bank Worn shelf air flash out = Refuses load_fault.Worn shelf air flash out
-Says in_bank NoMemory shelf air flash out = IsNotBegun air flash × out.same
-Says in_bank (Absent name) shelf air flash out = IsNotCalled air flash out × ((name.bytes ≡ box_name) × Lacks shelf.held name.bytes)
-Says in_bank (BoxRefused field) shelf air flash out = IsNotCalled air flash out × RefusesBox shelf.held field.bytes
-Says in_bank ShelfFault shelf air flash out = IsNotCalled air flash out
-Says in_bank other shelf air flash out = ⊥
+abbrev pub Says : Bool → Bool → Status → ShelfSeen → SourceSeen → FlashSeen → SinkSeen → Type 0
+Says in_bank keeps (Installed chosen) shelf air flash out = Tells in_bank keeps (verdict.Installed chosen) Gains shelf air flash out
+Says in_bank keeps (Nothing level) shelf air flash out = Tells in_bank keeps (verdict.Nothing level) Gains shelf air flash out
+Says in_bank keeps (Incomplete chosen missing) shelf air flash out = Tells in_bank keeps (verdict.Incomplete chosen missing) Gains shelf air flash out
+Says in_bank keeps (BadModule id want found) shelf air flash out = Tells in_bank keeps (verdict.BadModule id want found) Gains shelf air flash out
+Says in_bank keeps Unsettled shelf air flash out = Tells in_bank keeps verdict.Unsettled Gains shelf air flash out
+Says in_bank keeps WriteFault shelf air flash out =
+    Rose out.faults out.faults_after × ((told : Verdict) × Tells in_bank keeps told GainsPrefix shelf air flash out)
+Says in_bank keeps ReadFault shelf air flash out = Refuses keeps load_fault.ReadFault shelf air flash out
+Says in_bank keeps TooLong shelf air flash out = Refuses keeps load_fault.TooLong shelf air flash out
+Says in_bank keeps FlashFault shelf air flash out = Refuses keeps load_fault.FlashFault shelf air flash out
+Says in_bank keeps Geometry shelf air flash out = Refuses keeps load_fault.Geometry shelf air flash out
+Says in_bank keeps Foreign shelf air flash out = Refuses keeps load_fault.Foreign shelf air flash out
+Says in_bank keeps Worn shelf air flash out = Refuses keeps load_fault.Worn shelf air flash out
+Says in_bank keeps NoMemory shelf air flash out = IsNotBegun air flash × out.same
+Says in_bank keeps (Absent name) shelf air flash out = IsNotCalled air flash out × ((name.bytes ≡ box_name) × Lacks shelf.held name.bytes)
+Says in_bank keeps (BoxRefused field) shelf air flash out = IsNotCalled air flash out × RefusesBox shelf.held field.bytes
+Says in_bank keeps ShelfFault shelf air flash out = IsNotCalled air flash out
+Says in_bank keeps other shelf air flash out = ⊥
 
 -- ---- for the promise
+
+-- the fact where a module has not the CRC of its descriptor
+abbrev pub OnBadModule : Status → Type 0 → Type 0
+OnBadModule (BadModule id want found) fact = fact
+OnBadModule other fact = Unit {0}
 
 -- the shelf tells its files, and its box file tells of this box
 abbrev pub HoldsBox : Option (List File) → BoxFile → Type 0
@@ -81,18 +86,18 @@ HoldsBox None box_file = ⊥
 
 -- The shelf told a box, the packets that were taken carry this group whole for it, not without the last of them, and y is x with
 -- its image installed.
-pub record InstallsForBox (shelf : ShelfSeen) (air : SourceSeen) (flash : FlashSeen) (former : Boot) (left : List ℕ) : Type 0 where
+pub record InstallsForBox (keeps : Bool) (shelf : ShelfSeen) (air : SourceSeen) (flash : FlashSeen) (former : Boot) (left : List ℕ) : Type 0 where
   pub box_file : BoxFile
   pub told : TellsBox shelf.held box_file
   pub chosen : Chosen
-  pub installs : TakesAndInstalls (receiver_at box_file flash former) air.left air.left_after flash.blocks flash.contents left chosen
+  pub installs : TakesAndInstalls (receiver_at keeps box_file flash former) air.left air.left_after flash.blocks flash.contents left chosen
 
 -- This holds of the box that the shelf told, with this flash, and of the bytes that were taken, where shelf, flash and source tell them.
-abbrev pub ForTaken : ShelfSeen → SourceSeen → FlashSeen → (Receiver → List ℕ → Type 0) → Type 0
-ForTaken shelf air flash Fact =
+abbrev pub ForTaken : Bool → ShelfSeen → SourceSeen → FlashSeen → (Receiver → List ℕ → Type 0) → Type 0
+ForTaken keeps shelf air flash Fact =
     (former : Boot) → BootOf flash.blocks flash.contents former → (box_file : BoxFile) → HoldsBox shelf.held box_file
     → (taken rest : List ℕ) → air.left ≡ Some (taken ++ rest) → air.left_after ≡ Some rest
-    → Fact (receiver_at box_file flash former) taken
+    → Fact (receiver_at keeps box_file flash former) taken
 
 -- No count of faults rose.
 pub record NoneFailed (shelf : ShelfSeen) (air : SourceSeen) (flash : FlashSeen) (out : SinkSeen) : Type 0 where

@@ -4,8 +4,10 @@ use Rattle.box_file.specs.declared.file.BoxFile.{BoxFile}
 use Rattle.flash_bank.specs.Leaving.{KeepsBoot}
 use Rattle.flash_bank.specs.Seen.{FlashSeen}
 use Rattle.flash_bank.specs.Sound.{Boot, BootOf, IsSound, IsWorn}
+use Rattle.flash_stage.specs.Keeping.{StagesNone}
 use Rattle.ssu_answer.specs.declared.chosen.Chosen.{Chosen}
 use Rattle.ssu_io.specs.Seen.{ShelfSeen, SinkSeen, SourceSeen}
+use Rattle.ssu_loader.specs.Remaining.{StagesStanding}
 use Rattle.ssu_loader.specs.Replaying.{AtAnyMoment, IsNotBegun, IsReady, receiver_at}
 use Rattle.ssu_loader.specs.Replays.{BeginsNone, CarriesFirst, heard_in, record_after}
 use Rattle.ssu_loader.specs.Storing.{Stores}
@@ -16,38 +18,45 @@ use Rattle.ssu_status.specs.declared.status.Status.TheVariants.{Installed, NoMem
 use Rattle.tool_box.specs.Boxes.{box_name}
 use Rattle.tool_box.specs.Fetching.{HasNone, SaysAbsent}
 use Rattle.tool_box.specs.Shelves.{ReadsShelf}
-use Rattle.tool_replay.specs.Answers.{ForTaken, HoldsBox, InstallsForBox, NoneFailed, Says}
+use Rattle.tool_replay.specs.Answers.{ForTaken, HoldsBox, InstallsForBox, NoneFailed, OnBadModule, Says}
 use Rattle.ts_input.specs.Packets.{IsWithin}
 
 -- What is said of contents holds of a flash that tells them, and of what may be left where it tells its moments.
--- `in_bank` says whether the places of a group are staged in the spare bank.
-pub record Replays (in_bank : Bool) (result : Status) (shelf : ShelfSeen) (air : SourceSeen) (flash : FlashSeen)
+-- `in_bank` says whether the places of a group are staged in the spare bank, and `keeps` whether the stage keeps those that the flash has
+-- staged.
+pub record Replays (in_bank keeps : Bool) (result : Status) (shelf : ShelfSeen) (air : SourceSeen) (flash : FlashSeen)
     (out : SinkSeen) : Type 0 where
   -- From sound contents, whatever packets come, power loss at any moment, within an erase or program too, leaves a
   -- flash whose boot takes the former image, or a matching, admitted group that the packets taken carry whole.
   pub at_any_moment : flash.tells → IsSound flash.blocks flash.contents
       → (former : Boot) → BootOf flash.blocks flash.contents former → AtAnyMoment flash
-      (λ left. KeepsBoot flash.blocks flash.contents left ⊎ InstallsForBox shelf air flash former left)
+      (λ left. KeepsBoot flash.blocks flash.contents left ⊎ InstallsForBox keeps shelf air flash former left)
   -- If packets at the front carry a group whole, that is decided first, and no call fails, the answer is Installed,
   -- and boot takes its image.
   pub carried : flash.tells → IsReady flash → (former : Boot) → BootOf flash.blocks flash.contents former
       → (box_file : BoxFile) → HoldsBox shelf.held box_file → NoneFailed shelf air flash out → ¬ (result ≡ NoMemory)
       → (front rest : List ℕ) (chosen : Chosen) (image : List ℕ) → air.left ≡ Some (front ++ rest)
-      → IsWithin (length front) → CarriesFirst (receiver_at box_file flash former) front chosen image
+      → IsWithin (length front) → CarriesFirst (receiver_at keeps box_file flash former) front chosen image
       → (result ≡ Installed chosen)
       × BootOf flash.blocks flash.contents_after (record { head = record_after former.head chosen; image = image })
   -- Each answer comes exactly where it may, the flash is as it says, and the line of a verdict is printed.
-  pub answers : Says in_bank result shelf air flash out
+  pub answers : Says in_bank keeps result shelf air flash out
   -- It comes of the shelf where it says so, and where no count of faults rises, it is no fault.
   pub files : ReadsShelf result shelf
   pub no_box : HasNone shelf.held box_name → SaysAbsent box_name result
   pub complete : NoneFailed shelf air flash out → ¬ IsFault result
   -- Where no choice of a group begins in the packets taken, the flash is only read.
-  pub untouched : flash.tells → ForTaken shelf air flash (λ me taken. BeginsNone me taken → flash.only_reads)
+  pub untouched : flash.tells → ForTaken keeps shelf air flash (λ me taken. BeginsNone me taken → flash.only_reads)
   -- At Incomplete each place that the standing choice has filled is in the spare bank, with the bytes of the first
-  -- block that filled it, so that no block is kept in memory alone. What boot took before is gone, since a choice began.
-  pub stored : flash.tells → in_bank ≡ true → ForTaken shelf air flash (λ me taken. OnIncomplete result
+  -- block that filled it, if its group is not one that is kept. What boot took before is gone, since a choice began.
+  pub stored : flash.tells → in_bank ≡ true → ForTaken keeps shelf air flash (λ me taken. OnIncomplete result
       (λ chosen missing. Stores flash.blocks flash.contents_after me (heard_in me taken)))
+  -- If it is one that is kept, it is staged in the flash, with just the places that are kept or filled and with their
+  -- bytes. So no block is kept in memory alone.
+  pub staged : flash.tells → keeps ≡ true → ForTaken keeps shelf air flash (λ me taken. OnIncomplete result
+      (λ chosen missing. StagesStanding flash.blocks flash.contents_after me (heard_in me taken)))
+  -- Of a group with a wrong module nothing stays staged.
+  pub forgotten : flash.tells → keeps ≡ true → OnBadModule result (StagesNone flash.blocks flash.contents_after)
   -- Contents that are not sound, or that no record can follow, are only read, and no packet is taken.
   pub refused : flash.tells → ¬ IsSound flash.blocks flash.contents ⊎ IsWorn flash.blocks flash.contents
       → IsNotBegun air flash

@@ -31,7 +31,7 @@ pub fn replay<H: Shelf, A: Source, F: Flash, T: Sink, S: Stage>(
     flash: &mut F,
     out: &mut T,
 ) -> Status
-    ensures replays { Replays S.IN_BANK result (shelf_seen H.Shelf shelf.old shelf.new) (source_seen A.Source air.old air.new)
+    ensures replays { Replays S.IN_BANK S.KEEPS result (shelf_seen H.Shelf shelf.old shelf.new) (source_seen A.Source air.old air.new)
         (flash_seen F.Flash flash.old flash.new) (sink_seen T.Sink out.old out.new) }
 {
     let file = match read_box(alloc, shelf) {

@@ -1,18 +1,25 @@
 //! `sample N`: what comes of a broadcast that is made of a number.
-ghost use Rattle.std.specs.Prelude.{◌≡◌, ◌+◌, ◌≤◌, ◌++◌, IfOk, length};
+ghost use Rattle.std.specs.Prelude.{◌≡◌, ◌+◌, ◌≤◌, ◌++◌, IfOk, length, map};
+ghost use Rattle.std.specs.List.{All};
+ghost use Rattle.broadcast.specs.Broadcasts.{Broadcasts};
+ghost use Rattle.head_carousel.specs.Sections.{sections_of};
+ghost use Rattle.head_mux.specs.Sent.{IsSendable};
+ghost use Rattle.head_plan.specs.Plans.{mentions};
 ghost use Rattle.ssu_io.specs.Bytes.{Gains, GainsPrefix};
 ghost use Rattle.ssu_io.specs.Faults.{Rose};
 ghost use Rattle.ssu_io.specs.Seen.{sink_seen};
 ghost use Rattle.ssu_status.specs.Answers.{IsPrinted};
 ghost use Rattle.ssu_status.specs.Status.{OnDone, OnWriteFault};
-ghost use Rattle.tool_sample.specs.Does.{ForOutcome, SampleDoes, text_of};
-ghost use Rattle.tool_sample.specs.Sample.{section_total};
+ghost use Rattle.tool_sample.specs.Does.{ForOutcome, SampleDoes, sure_seen, text_of};
+ghost use Rattle.tool_sample.specs.Sample.{modules_of, plan_in, script_of, section_total, the_box as box_of};
 
 use crate::flash::formatted;
 use crate::modules::{byte_total, module_count, modules};
 use crate::plan::{plan, script, section_count, the_box, turns};
 use arrayvec::ArrayString;
 use broadcast::{ChainFault, Outcome, broadcast_then_boot};
+use flash_dev::SureFlash;
+use head_plan::Plan;
 use ssu_io::{Failed, NoMemory, Sink};
 use ssu_line::{Line, booted, sampled, verdict};
 use ssu_status::Status;
@@ -50,17 +57,55 @@ fn outcome_of(alloc: Global, number: u32) -> Result<Findings, NoMemory>
 {
     let modules = modules(alloc, number)?;
     let sections = section_count(alloc, number, &modules)?;
+    let outcome = outcome_of_sections(alloc, number, sections, &modules)?;
+    Ok(Findings { sections, outcome })
+}
+
+/// What comes of the broadcast of these modules, whose plan makes so many sections.
+fn outcome_of_sections(
+    alloc: Global,
+    number: u32,
+    sections: u32,
+    modules: &[Vec<u8>],
+) -> Result<Outcome, NoMemory>
+    requires number { number ≤ 999999 }
+    requires count { sections ≡ section_total number }
+    requires few { sections ≤ 297 }
+    requires modules { map (λ m. m.items) modules.now ≡ modules_of number }
+    requires sendable { All IsSendable (sections_of (plan_in number 1) (modules_of number)) }
+    ensures { IfOk result (λ outcome. ForOutcome number (λ come. come ≡ outcome)) }
+{
     let plan = plan(alloc, number, turns(sections))?;
-    let script = script(alloc, number);
-    let me = the_box();
     let mut flash = formatted(alloc)?;
-    match broadcast_then_boot(alloc, &plan, &modules, &script, &me, &mut flash) {
-        Ok(outcome) => Ok(Findings { sections, outcome }),
+    match broadcast_to(alloc, number, &plan, modules, &mut flash) {
+        Ok(outcome) => Ok(outcome),
         Err(ChainFault::Memory) => Err(NoMemory),
         Err(ChainFault::Build(_)) => unreachable!(),
         Err(ChainFault::Load(_)) => unreachable!(),
         Err(ChainFault::Boot(_)) => unreachable!(),
     }
+}
+
+/// The broadcast of a plan, of which the sample's packets are lost, to the box and its flash.
+fn broadcast_to(
+    alloc: Global,
+    number: u32,
+    plan: &Plan,
+    modules: &[Vec<u8>],
+    flash: &mut SureFlash,
+) -> Result<Outcome, ChainFault>
+    requires { length modules.now ≡ length (mentions plan.now.group) }
+    ensures broadcasts { Broadcasts (record { plan = plan.now; images = map (λ m. m.items) modules.now; script = script_of number })
+        box_of result (sure_seen flash.old flash.new) }
+{
+    broadcast_then_boot(
+        alloc,
+        plan,
+        modules,
+        &script(alloc, number),
+        &the_box(),
+        flash,
+    )
 }
 
 /// Prints the lines of a sample.

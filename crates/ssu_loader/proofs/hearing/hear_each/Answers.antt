@@ -3,14 +3,20 @@ use Rattle.flash_bank.specs.Bank.{geometry_of}
 use Rattle.flash_bank.specs.Leaving.{KeepsBoot}
 use Rattle.std.specs.Prelude.{Ok, Some}
 use Rattle.flash_dev.proofs.Moments.{weaker}
+use Rattle.flash_layout.specs.Layout.{Geometry}
+use Rattle.flash_stage.specs.Keeping.{StagesNone}
 use Rattle.flash_stage.proofs.LeavingLaws.{banks_joined}
 use Rattle.route_tables.specs.Next.{heard_on}
 use Rattle.ssu_route.specs.Queries.{after_all}
 use Rattle.ssu_route.specs.Windows.{beginnings}
 use Rattle.ssu_loader.specs.Collecting.{Collects}
+use Rattle.flash_dev.specs.Moments.{LeavesOnly}
 use Rattle.ssu_loader.specs.Leaving.{SectionsLeave}
+use Rattle.ssu_loader.specs.Life.{HoldsHeard}
+use Rattle.ssu_loader.specs.Storing.{HasNoPrev}
 use Rattle.ssu_loader.proofs.AnsweringLaws.{if_none_at}
-use Rattle.ssu_loader.proofs.HearingLaws.{goes_on_none, goes_on_some, heard_alone, heard_ends, heard_leaves, heard_left, heard_more, heard_no_prev, heard_none, heard_seen, heard_stops, heard_untouched, take_whole}
+use Rattle.ssu_loader.proofs.CollectingLaws.{undecided_of}
+use Rattle.ssu_loader.proofs.HearingLaws.{goes_on_none, goes_on_some, heard_alone, heard_ends, heard_holds, heard_holds_left, heard_leaves, heard_left, heard_more, heard_none, heard_seen, heard_stops, heard_untouched, heard_wrong, take_whole}
 use Rattle.ssu_loader.proofs.UnlessLaws.{unless_from, unless_none, unless_one}
 use Rattle.ssu_loader.proofs.hearing.hear_each.Goals as goal
 
@@ -35,7 +41,7 @@ loop-k-preserved g c =
     c.loop-k.invariant c.requires.usable c.get.ensures.bytes
     (λ me heard col. if_none_at _ c.in_ok-hear.field-0 c.in-None.is (c.in_ok-hear.ensures.collects me heard col))
     (λ tells me heard col. goes_on_none me (heard_on c.args.pid section ∷ heard) c.loop-k.collector.bank x y c.in_ok-hear.field-0 c.in-None.is (c.in_ok-hear.ensures.goes_on tells me heard col))
-    (λ tells me heard col. c.hear.ensures.left tells me heard col) c.hear.ensures.untouched
+    (λ tells me heard col. c.hear.ensures.left tells me heard col) c.hear.ensures.untouched c.hear.ensures.holds c.hear.ensures.holds_left
     (if_none_at _ c.in_ok-hear.field-0 c.in-None.is (unless_none {E = Unit {0}} (Ok c.in_ok-hear.field-0) _ c.in_ok-hear.ensures.same_bank)) c.in_ok-hear.ensures.lent c.hear.ensures.blocks c.hear.ensures.block_size c.hear.ensures.cause.later
 
 pub returns-in_err-hear-clause-held : goal.returns-in_err-hear-clause-held
@@ -119,7 +125,8 @@ returns-in-Some-clause-seen g c = λ me heard col.
 pub returns-clause-seen : goal.returns-clause-seen
 returns-clause-seen g c = λ me heard col.
     let all : take c.loop-k.k c.args.each.now ≡ c.args.each.now = take_whole c.args.each.now c.loop-k.k (omega (arith, c.loop-k-test.false, c.len-k-end.ensures)) in
-    (subst (λ (sections : List (List ℕ)). Collects g.S.Stage g.F.Flash me (after_all c.args.pid sections heard) c.loop-k.collector c.loop-k.flash) all (c.loop-k.invariant.collects me heard col)).gathers.knows.undecided
+    let collects = subst (λ (sections : List (List ℕ)). Collects g.S.Stage g.F.Flash me (after_all c.args.pid sections heard) c.loop-k.collector c.loop-k.flash) all (c.loop-k.invariant.collects me heard col) in
+    undecided_of g.S.Stage g.F.Flash me (after_all c.args.pid c.args.each.now heard) c.loop-k.collector c.loop-k.flash collects.gathers
 
 pub returns-in_err-hear-clause-untouched : goal.returns-in_err-hear-clause-untouched
 returns-in_err-hear-clause-untouched g c =
@@ -170,13 +177,16 @@ returns-in-Some-clause-too_many g c = λ me heard col.
     (λ many. (c.hear.ensures.too_many me earlier (c.loop-k.invariant.collects me heard col) many).1)
 
 pub returns-in-Some-clause-no_prev : goal.returns-in-Some-clause-no_prev
-returns-in-Some-clause-no_prev g c = λ in_bank tells me heard col.
-    let f = g.F.Flash in
-    let earlier = after_all c.args.pid (take c.loop-k.k c.args.each.now) heard in
-    heard_no_prev g.S.Stage g.F.Flash c.args.pid c.args.each.now c.loop-k.k c.args.collector.now c.args.flash.now c.loop-k.collector c.loop-k.flash c.hear.new.self c.hear.new.flash c.get.result.now
-    c.loop-k.invariant c.requires.usable c.get.ensures.bytes in_bank tells me heard col c.in-Some.verdict
-    (goes_on_some me (heard_on c.args.pid c.get.result.now ∷ earlier) c.loop-k.collector.bank (f.contents c.loop-k.flash) (f.contents c.hear.new.flash) c.in_ok-hear.field-0 c.in-Some.verdict c.in-Some.is
-    (c.in_ok-hear.ensures.goes_on tells me earlier (c.loop-k.invariant.collects me heard col)))
+returns-in-Some-clause-no_prev g c = λ in_bank tells.
+    let y = g.F.Flash.contents c.hear.new.flash in
+    heard_wrong g.S.Stage g.F.Flash c.args.pid c.args.each.now c.loop-k.k c.args.collector.now c.args.flash.now c.loop-k.collector c.loop-k.flash c.hear.new.self c.hear.new.flash c.get.result.now
+    c.loop-k.invariant c.requires.usable c.get.ensures.bytes (λ (blocks : Geometry). HasNoPrev blocks y) c.in_ok-hear.field-0 c.in-Some.verdict c.in-Some.is (c.in_ok-hear.ensures.no_prev in_bank tells)
+
+pub returns-in-Some-clause-forgotten : goal.returns-in-Some-clause-forgotten
+returns-in-Some-clause-forgotten g c = λ keeps tells.
+    let y = g.F.Flash.contents c.hear.new.flash in
+    heard_wrong g.S.Stage g.F.Flash c.args.pid c.args.each.now c.loop-k.k c.args.collector.now c.args.flash.now c.loop-k.collector c.loop-k.flash c.hear.new.self c.hear.new.flash c.get.result.now
+    c.loop-k.invariant c.requires.usable c.get.ensures.bytes (λ (blocks : Geometry). StagesNone blocks y) c.in_ok-hear.field-0 c.in-Some.verdict c.in-Some.is (c.in_ok-hear.ensures.forgotten keeps tells)
 
 pub returns-in_err-hear-clause-alone : goal.returns-in_err-hear-clause-alone
 returns-in_err-hear-clause-alone g c =
@@ -190,3 +200,41 @@ returns-in-Some-clause-alone g c =
 
 pub returns-clause-alone : goal.returns-clause-alone
 returns-clause-alone g c = c.loop-k.invariant.alone
+
+pub returns-in_err-hear-clause-holds : goal.returns-in_err-hear-clause-holds
+returns-in_err-hear-clause-holds g c = λ tells me heard col.
+    heard_holds g.S.Stage g.F.Flash c.args.pid c.args.each.now c.loop-k.k c.args.collector.now c.args.flash.now c.loop-k.collector c.loop-k.flash c.hear.new.self c.hear.new.flash c.get.result.now
+    c.loop-k.invariant c.requires.usable c.get.ensures.bytes tells me heard col (g.F.Flash.contents c.hear.new.flash)
+    (c.hear.ensures.holds tells me (after_all c.args.pid (take c.loop-k.k c.args.each.now) heard) (c.loop-k.invariant.collects me heard col))
+
+pub returns-in_err-hear-clause-holds_left : goal.returns-in_err-hear-clause-holds_left
+returns-in_err-hear-clause-holds_left g c = λ tells me heard col.
+    heard_holds_left g.S.Stage g.F.Flash c.args.pid c.args.each.now c.loop-k.k c.args.collector.now c.args.flash.now c.loop-k.collector c.loop-k.flash c.hear.new.self c.hear.new.flash c.get.result.now
+    c.loop-k.invariant c.requires.usable c.get.ensures.bytes tells me heard col
+    (c.hear.ensures.holds_left tells me (after_all c.args.pid (take c.loop-k.k c.args.each.now) heard) (c.loop-k.invariant.collects me heard col))
+
+pub returns-in-Some-clause-holds : goal.returns-in-Some-clause-holds
+returns-in-Some-clause-holds g c = λ tells me heard col.
+    heard_holds g.S.Stage g.F.Flash c.args.pid c.args.each.now c.loop-k.k c.args.collector.now c.args.flash.now c.loop-k.collector c.loop-k.flash c.hear.new.self c.hear.new.flash c.get.result.now
+    c.loop-k.invariant c.requires.usable c.get.ensures.bytes tells me heard col (g.F.Flash.contents c.hear.new.flash)
+    (c.hear.ensures.holds tells me (after_all c.args.pid (take c.loop-k.k c.args.each.now) heard) (c.loop-k.invariant.collects me heard col))
+
+pub returns-in-Some-clause-holds_left : goal.returns-in-Some-clause-holds_left
+returns-in-Some-clause-holds_left g c = λ tells me heard col.
+    heard_holds_left g.S.Stage g.F.Flash c.args.pid c.args.each.now c.loop-k.k c.args.collector.now c.args.flash.now c.loop-k.collector c.loop-k.flash c.hear.new.self c.hear.new.flash c.get.result.now
+    c.loop-k.invariant c.requires.usable c.get.ensures.bytes tells me heard col
+    (c.hear.ensures.holds_left tells me (after_all c.args.pid (take c.loop-k.k c.args.each.now) heard) (c.loop-k.invariant.collects me heard col))
+
+pub returns-clause-holds : goal.returns-clause-holds
+returns-clause-holds g c = λ tells me heard col.
+    let f = g.F.Flash in
+    let all : take c.loop-k.k c.args.each.now ≡ c.args.each.now = take_whole c.args.each.now c.loop-k.k (omega (arith, c.loop-k-test.false, c.len-k-end.ensures)) in
+    subst (λ (sections : List (List ℕ)). HoldsHeard (geometry_of c.args.collector.now.bank) me (after_all c.args.pid sections heard) (f.contents c.args.flash.now) (f.contents c.loop-k.flash)) all
+    (c.loop-k.invariant.holds tells me heard col)
+
+pub returns-clause-holds_left : goal.returns-clause-holds_left
+returns-clause-holds_left g c = λ tells me heard col.
+    let f = g.F.Flash in
+    let all : take c.loop-k.k c.args.each.now ≡ c.args.each.now = take_whole c.args.each.now c.loop-k.k (omega (arith, c.loop-k-test.false, c.len-k-end.ensures)) in
+    subst (λ (sections : List (List ℕ)). LeavesOnly f.moment f.left_since c.args.flash.now c.loop-k.flash (HoldsHeard (geometry_of c.args.collector.now.bank) me (after_all c.args.pid sections heard) (f.contents c.args.flash.now))) all
+    (c.loop-k.invariant.holds_left tells me heard col)

@@ -20,4 +20,4 @@ returns-clause-read c =
 
 pub returns-clause-short : goal.returns-clause-short
 returns-clause-short c =
-    each (λ d. dii.Spells d c.args.section.now) (λ d. length d.message ≤ 4096) (λ d s. message_short d c.args.section.now s) c.read.result c.read.ensures.found
+    each (λ d. dii.Spells d c.args.section.now) (λ d. length d.message ≤ 4084) (λ d s. message_short d c.args.section.now s) c.read.result c.read.ensures.found

@@ -11,6 +11,8 @@ use Rattle.flash_bank.proofs.BankLemmas.{still_blank_journal}
 use Rattle.flash_bank.proofs.LeavingLemmas.{filled_keeps_boot, keeps_boot_same}
 use Rattle.flash_bank.specs.Leaving.{KeepsBoot}
 use Rattle.flash_stage.proofs.LeavingLaws.{len_same}
+use Rattle.bank_kept.specs.Leaving.{HoldsNoMore}
+use Rattle.flash_stage.proofs.KeptLaws.{filled_no_more, same_no_more}
 use Rattle.flash_stage.proofs.bank_stage.BankStageStage.offer.Goals as goal
 
 pub has-requires : goal.has-requires
@@ -101,3 +103,39 @@ returns-clause-old_bytes g c tells number there =
     let changes = subst (λ (n : ℕ). Changes (spare_bank b + c.args.place.at) n (IsProgrammed c.args.bytes.now) x y) c.requires.length (c.in_ok-fill.ensures.filled tells) in
     still_bytes (plan_in_bank s b c.requires.ready) b c.fill.new.self (IsProgrammed c.args.bytes.now) x y number c.args.place.number c.args.place same c.requires.place
     (other_number (marked s.map) number c.args.place.number there free) changes
+
+pub returns-then-has-clause-one_more_left : goal.returns-then-has-clause-one_more_left
+returns-then-has-clause-one_more_left g c tells =
+    let F = g.F.Flash in
+    let b = c.args.bank.now in
+    let f = c.args.flash.now in
+    let P = HoldsNoMore (geometry_of b) (F.contents f) in
+    started F.moment F.left_since f P (λ y left. subst P (sym (g.met.F.Flash.only_now f y left)) (same_no_more (geometry_of b) (F.contents f)))
+
+pub returns-in_err-fill-clause-one_more : goal.returns-in_err-fill-clause-one_more
+returns-in_err-fill-clause-one_more g c tells =
+    let inside = inside_plan (plan_in_bank c.args.self.now c.args.bank.now c.requires.ready) c.args.place.number c.args.place c.requires.place in
+    filled_no_more c.args.bank.now c.args.place.at c.args.bytes.now _ _ _ (c.requires.lent.fits tells) (omega (arith, inside, c.requires.length, c.requires.ready.fits))
+    (c.requires.agrees tells).journal (c.fill.ensures.held tells)
+
+pub returns-in_err-fill-clause-one_more_left : goal.returns-in_err-fill-clause-one_more_left
+returns-in_err-fill-clause-one_more_left g c tells =
+    let x = g.F.Flash.contents c.args.flash.now in
+    let inside = inside_plan (plan_in_bank c.args.self.now c.args.bank.now c.requires.ready) c.args.place.number c.args.place c.requires.place in
+    weaker g.F.Flash.moment g.F.Flash.left_since c.args.flash.now c.fill.new.flash (LeavesFilled c.args.bank.now c.args.place.at c.args.bytes.now x) _
+    (λ y. filled_no_more c.args.bank.now c.args.place.at c.args.bytes.now x x y (c.requires.lent.fits tells) (omega (arith, inside, c.requires.length, c.requires.ready.fits))
+    (c.requires.agrees tells).journal) (c.fill.ensures.left tells)
+
+pub returns-clause-one_more : goal.returns-clause-one_more
+returns-clause-one_more g c tells =
+    let inside = inside_plan (plan_in_bank c.args.self.now c.args.bank.now c.requires.ready) c.args.place.number c.args.place c.requires.place in
+    filled_no_more c.args.bank.now c.args.place.at c.args.bytes.now _ _ _ (c.requires.lent.fits tells) (omega (arith, inside, c.requires.length, c.requires.ready.fits))
+    (c.requires.agrees tells).journal (c.fill.ensures.held tells)
+
+pub returns-clause-one_more_left : goal.returns-clause-one_more_left
+returns-clause-one_more_left g c tells =
+    let x = g.F.Flash.contents c.args.flash.now in
+    let inside = inside_plan (plan_in_bank c.args.self.now c.args.bank.now c.requires.ready) c.args.place.number c.args.place c.requires.place in
+    weaker g.F.Flash.moment g.F.Flash.left_since c.args.flash.now c.fill.new.flash (LeavesFilled c.args.bank.now c.args.place.at c.args.bytes.now x) _
+    (λ y. filled_no_more c.args.bank.now c.args.place.at c.args.bytes.now x x y (c.requires.lent.fits tells) (omega (arith, inside, c.requires.length, c.requires.ready.fits))
+    (c.requires.agrees tells).journal) (c.fill.ensures.left tells)

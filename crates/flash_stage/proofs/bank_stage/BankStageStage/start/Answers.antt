@@ -6,6 +6,7 @@ use Rattle.flash_bank.specs.Bank.{LeavesBegun, geometry_of}
 use Rattle.flash_bank.proofs.BankLemmas.{blank_bank, blank_journal}
 use Rattle.flash_stage.specs.Leaving.{SameBank}
 use Rattle.flash_stage.proofs.InBankLemmas.{blank_place, few_places, same_journal}
+use Rattle.flash_stage.proofs.KeptLaws.{begun_no_more}
 use Rattle.flash_stage.proofs.bank_stage.BankStageStage.start.Goals as goal
 
 pub clear-requires : goal.clear-requires
@@ -41,3 +42,21 @@ returns-clause-agrees g c tells =
           blank_place plan b c.begin.new.self y number p same c.requires.inside (blank_bank b y erased) there;
       journal = same_journal b c.begin.new.self y same (λ two. blank_journal b two y erased);
     }
+
+pub returns-in_err-begin-clause-no_more : goal.returns-in_err-begin-clause-no_more
+returns-in_err-begin-clause-no_more g c tells = begun_no_more c.args.bank.now _ _ (c.requires.lent.fits tells) (c.begin.ensures.held tells)
+
+pub returns-in_err-begin-clause-no_more_left : goal.returns-in_err-begin-clause-no_more_left
+returns-in_err-begin-clause-no_more_left g c tells =
+    let x = g.F.Flash.contents c.args.flash.now in
+    weaker g.F.Flash.moment g.F.Flash.left_since c.args.flash.now c.begin.new.flash (LeavesBegun (geometry_of c.args.bank.now) x) _
+    (λ y. begun_no_more c.args.bank.now x y (c.requires.lent.fits tells)) (c.begin.ensures.left tells)
+
+pub returns-clause-no_more : goal.returns-clause-no_more
+returns-clause-no_more g c tells = begun_no_more c.args.bank.now _ _ (c.requires.lent.fits tells) (c.begin.ensures.held tells)
+
+pub returns-clause-no_more_left : goal.returns-clause-no_more_left
+returns-clause-no_more_left g c tells =
+    let x = g.F.Flash.contents c.args.flash.now in
+    weaker g.F.Flash.moment g.F.Flash.left_since c.args.flash.now c.begin.new.flash (LeavesBegun (geometry_of c.args.bank.now) x) _
+    (λ y. begun_no_more c.args.bank.now x y (c.requires.lent.fits tells)) (c.begin.ensures.left tells)

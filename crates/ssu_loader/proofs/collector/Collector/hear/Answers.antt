@@ -6,8 +6,10 @@ use Rattle.route_tables.specs.Next.{heard_on}
 use Rattle.ssu_route.specs.declared.change.Change.TheVariants as change
 use Rattle.ssu_route.proofs.Choices.{lost_none, one_more_begins}
 use Rattle.ssu_loader.specs.Leaving.{SectionsLeave}
-use Rattle.ssu_loader.proofs.CollectingLaws.{goes_ahead, none_collects}
+use Rattle.ssu_loader.specs.Life.{HoldsHeard}
+use Rattle.ssu_loader.proofs.CollectingLaws.{goes_ahead, none_collects, undecided_of, with_route}
 use Rattle.ssu_loader.proofs.DecisionLaws.{not_too_many}
+use Rattle.ssu_loader.proofs.HoldingLaws.{holds_itself}
 use Rattle.ssu_loader.proofs.LeftLaws.{left_now}
 use Rattle.ssu_loader.proofs.collector.Collector.hear.Goals as goal
 
@@ -116,8 +118,10 @@ returns-in-Lost-clause-seen g c = λ me heard collects.
     let ahead = goes_ahead g.S.Stage g.F.Flash me heard (heard_on c.args.pid c.args.section.now) c.args.self.now c.hear.new.self c.args.flash.now c.current.result.software
     change.Lost c.hear.result collects
     (ap (λ (r : Record). r.software) c.current.ensures.value) c.hear.ensures.stands c.hear.ensures.change c.in-Lost.is in
-    (none_collects g.S.Stage g.F.Flash me item heard (record { bank = self.bank; stage = self.stage; route = c.hear.new.self; choices = self.choices }) c.args.flash.now ahead.stands
-    (λ chosen. let both : change.Lost ≡ change.Chosen = sym ahead.changes ∙ chosen in absurd cc) (lost_none me item heard ahead.changes) ahead.gathers).gathers.knows.undecided
+    let new = with_route g.S.Stage g.F.Flash me heard self c.hear.new.self in
+    let collects = none_collects g.S.Stage g.F.Flash me item heard new c.args.flash.now ahead.stands
+    (λ chosen. let both : change.Lost ≡ change.Chosen = sym ahead.changes ∙ chosen in absurd cc) (lost_none me item heard ahead.changes) ahead.gathers in
+    undecided_of g.S.Stage g.F.Flash me (item ∷ heard) new c.args.flash.now collects.gathers
 
 pub returns-in-Lost-clause-too_many : goal.returns-in-Lost-clause-too_many
 returns-in-Lost-clause-too_many g c = λ me heard collects many.
@@ -173,3 +177,39 @@ returns-in-Same-clause-untouched g c = λ me heard collects none.
     change.Same c.hear.result collects
     (ap (λ (r : Record). r.software) c.current.ensures.value) c.hear.ensures.stands c.hear.ensures.change c.in-Same.is in
     c.take.ensures.untouched me heard ahead none
+
+pub returns-in-Lost-clause-holds_left : goal.returns-in-Lost-clause-holds_left
+returns-in-Lost-clause-holds_left g c = λ tells me heard collects.
+    let f = g.F.Flash in
+    let x = f.contents c.args.flash.now in
+    let blocks = geometry_of c.args.self.now.bank in
+    let items = heard_on c.args.pid c.args.section.now ∷ heard in
+    left_now f g.met.F.Flash.only_now c.args.flash.now (HoldsHeard blocks me items x) (holds_itself blocks me items x)
+
+pub returns-in-Chosen-clause-holds : goal.returns-in-Chosen-clause-holds
+returns-in-Chosen-clause-holds g c = λ tells me heard collects.
+    let ahead = goes_ahead g.S.Stage g.F.Flash me heard (heard_on c.args.pid c.args.section.now) c.args.self.now c.hear.new.self c.args.flash.now c.current.result.software
+    change.Chosen c.hear.result collects
+    (ap (λ (r : Record). r.software) c.current.ensures.value) c.hear.ensures.stands c.hear.ensures.change c.in-Chosen.is in
+    c.begin.ensures.holds tells me (heard_on c.args.pid c.args.section.now) heard ahead
+
+pub returns-in-Same-clause-holds : goal.returns-in-Same-clause-holds
+returns-in-Same-clause-holds g c = λ tells me heard collects.
+    let ahead = goes_ahead g.S.Stage g.F.Flash me heard (heard_on c.args.pid c.args.section.now) c.args.self.now c.hear.new.self c.args.flash.now c.current.result.software
+    change.Same c.hear.result collects
+    (ap (λ (r : Record). r.software) c.current.ensures.value) c.hear.ensures.stands c.hear.ensures.change c.in-Same.is in
+    c.take.ensures.holds tells me heard ahead
+
+pub returns-in-Chosen-clause-holds_left : goal.returns-in-Chosen-clause-holds_left
+returns-in-Chosen-clause-holds_left g c = λ tells me heard collects.
+    let ahead = goes_ahead g.S.Stage g.F.Flash me heard (heard_on c.args.pid c.args.section.now) c.args.self.now c.hear.new.self c.args.flash.now c.current.result.software
+    change.Chosen c.hear.result collects
+    (ap (λ (r : Record). r.software) c.current.ensures.value) c.hear.ensures.stands c.hear.ensures.change c.in-Chosen.is in
+    c.begin.ensures.holds_left tells me (heard_on c.args.pid c.args.section.now) heard ahead
+
+pub returns-in-Same-clause-holds_left : goal.returns-in-Same-clause-holds_left
+returns-in-Same-clause-holds_left g c = λ tells me heard collects.
+    let ahead = goes_ahead g.S.Stage g.F.Flash me heard (heard_on c.args.pid c.args.section.now) c.args.self.now c.hear.new.self c.args.flash.now c.current.result.software
+    change.Same c.hear.result collects
+    (ap (λ (r : Record). r.software) c.current.ensures.value) c.hear.ensures.stands c.hear.ensures.change c.in-Same.is in
+    c.take.ensures.holds_left tells me heard ahead

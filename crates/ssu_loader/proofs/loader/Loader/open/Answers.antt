@@ -21,11 +21,12 @@ pub returns-clause-follows : goal.returns-clause-follows
 returns-clause-follows g c =
     let s = g.S.Stage in
     let f = g.F.Flash in
+    let contents = f.contents c.args.flash.now in
     both_if_ok _ _ _ c.with_bank.result (λ loader fresh is.
-    fresh_follows s f c.args.me.now loader c.open.new.flash fresh
+    fresh_follows s f c.args.me.now loader contents c.open.new.flash fresh
     (subst (λ (bank : Bank). IsLent f.tells f.contents f.block_count f.block_len bank c.open.new.flash) (sym is) c.in_ok-bank.ensures.lent)
-    (subst (λ (bank : Bank). (current_of bank).number < 4294967295) (sym is) c.in_ok-bank.ensures.next_fits))
-    c.with_bank.ensures.fresh c.with_bank.ensures.bank
+    (subst (λ (bank : Bank). (current_of bank).number < 4294967295) (sym is) c.in_ok-bank.ensures.next_fits) (λ tells. c.open.ensures.reads.same tells))
+    (c.with_bank.ensures.fresh contents) c.with_bank.ensures.bank
 
 pub returns-clause-next_fits : goal.returns-clause-next_fits
 returns-clause-next_fits g c = λ tells.

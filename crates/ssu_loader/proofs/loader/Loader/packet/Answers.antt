@@ -1,4 +1,4 @@
-use Rattle.std.proofs.Common.{◌≡◌, ℕ, List, ◌∷◌, ap, refl, sym, subst, ◌∙◌}
+use Rattle.std.proofs.Common.{◌≡◌, ℕ, List, ◌∷◌, inr, ap, refl, sym, subst, ◌∙◌}
 use Rattle.std.specs.Prelude.{Ok, Option}
 use Rattle.ssu_answer.specs.declared.verdict.Verdict.{Verdict}
 use Rattle.flash_dev.specs.Moments.{LeavesOnly}
@@ -9,10 +9,13 @@ use Rattle.ssu_route.proofs.Following.{followed_more}
 use Rattle.ssu_route.specs.Windows.{beginnings}
 use Rattle.ssu_loader.specs.Verdicts.{IsSeen}
 use Rattle.ssu_loader.specs.Collecting.{Collects, StopsBefore}
+use Rattle.flash_bank.specs.Bank.{geometry_of}
 use Rattle.ssu_loader.specs.Leaving.{GoesOn, IfUnsettled, SectionsLeave}
+use Rattle.ssu_loader.specs.Life.{HoldsHeard}
+use Rattle.ssu_loader.specs.Starting.{KnowsKept}
 use Rattle.ssu_loader.proofs.AnsweringLaws.{none_one}
 use Rattle.ssu_loader.proofs.PacketLaws.{answer_carried, packet_alone, packet_heard}
-use Rattle.ssu_loader.proofs.StoringLaws.{stores_in}
+use Rattle.ssu_loader.proofs.StoringLaws.{staged_in, stores_in}
 use Rattle.ssu_loader.proofs.loader.Loader.packet.Goals as goal
 
 pub hear_each-requires : goal.hear_each-requires
@@ -88,7 +91,7 @@ returns-clause-seen g c = λ me ps follows.
     let packet = c.args.packet.now in
     let each = c.feed.ensures.heard (followed me ps) follows.hears in
     let more = packet_heard me packet ps c.feed.new.each c.pid_of.result c.pid_of.ensures each in
-    subst (λ (items : List Heard). IsSeen me items c.in_ok-answer.answer) more (c.in_ok-answer.ensures.seen me (heard_by me ps) follows.collects)
+    subst (λ (items : List Heard). IsSeen (KnowsKept g.S.Stage g.F.Flash) me items c.in_ok-answer.answer) more (c.in_ok-answer.ensures.seen me (heard_by me ps) follows.collects)
 
 pub returns-in_err-answer-clause-untouched : goal.returns-in_err-answer-clause-untouched
 returns-in_err-answer-clause-untouched g c = λ me ps follows none.
@@ -118,8 +121,8 @@ returns-clause-carried g c = λ tells me ps chosen image follows reached unfaile
     let y = f.contents c.hear_each.new.flash in
     let heard = heard_by me (packet ∷ ps) in
     ap (λ (answer : Option Verdict). Ok answer)
-    (answer_carried me heard bank x y chosen image c.in_ok-answer.answer reached
-    (subst (λ (items : List Heard). IsSeen me items c.in_ok-answer.answer) more (c.in_ok-answer.ensures.seen me (heard_by me ps) follows.collects))
+    (answer_carried (KnowsKept g.S.Stage g.F.Flash) (inr tells) me heard bank x y chosen image c.in_ok-answer.answer reached
+    (subst (λ (items : List Heard). IsSeen (KnowsKept g.S.Stage g.F.Flash) me items c.in_ok-answer.answer) more (c.in_ok-answer.ensures.seen me (heard_by me ps) follows.collects))
     (subst (λ (items : List Heard). GoesOn me items bank x y c.in_ok-answer.answer) more (c.in_ok-answer.ensures.goes_on tells me (heard_by me ps) follows.collects)))
 
 pub returns-clause-too_many : goal.returns-clause-too_many
@@ -137,8 +140,12 @@ returns-clause-stored g c = λ in_bank tells me ps follows.
     (λ own. stores_in g.S.Stage g.F.Flash g.met.S.Stage.in_bank in_bank tells me heard c.hear_each.new.collector c.hear_each.new.flash own.collects)
     (returns-clause-follows g c me ps follows)
 
-pub returns-clause-no_prev : goal.returns-clause-no_prev
-returns-clause-no_prev g c = λ in_bank tells me ps follows. c.in_ok-answer.ensures.no_prev in_bank tells me (heard_by me ps) follows.collects
+pub returns-clause-staged : goal.returns-clause-staged
+returns-clause-staged g c = λ keeps tells me ps follows.
+    let heard = heard_by me (c.args.packet.now ∷ ps) in
+    none_one c.in_ok-answer.answer _ _
+    (λ own. staged_in g.S.Stage g.F.Flash keeps tells me heard c.hear_each.new.collector c.hear_each.new.flash own.collects)
+    (returns-clause-follows g c me ps follows)
 
 pub returns-in_err-answer-clause-alone : goal.returns-in_err-answer-clause-alone
 returns-in_err-answer-clause-alone g c = λ me ps follows many.
@@ -151,3 +158,39 @@ returns-clause-alone g c = λ me ps follows many.
     let each = c.feed.ensures.heard (followed me ps) follows.hears in
     c.hear_each.ensures.alone me (heard_by me ps) follows.collects
     (packet_alone me c.args.packet.now ps c.feed.new.each c.pid_of.result c.pid_of.ensures each many)
+
+pub returns-in_err-answer-clause-holds : goal.returns-in_err-answer-clause-holds
+returns-in_err-answer-clause-holds g c = λ tells me ps follows.
+    let packet = c.args.packet.now in
+    let each = c.feed.ensures.heard (followed me ps) follows.hears in
+    let more = packet_heard me packet ps c.feed.new.each c.pid_of.result c.pid_of.ensures each in
+    let f = g.F.Flash in
+    subst (λ (items : List Heard). HoldsHeard (geometry_of c.args.self.now.collector.bank) me items (f.contents c.args.flash.now) (f.contents c.hear_each.new.flash)) more
+    (c.hear_each.ensures.holds tells me (heard_by me ps) follows.collects)
+
+pub returns-in_err-answer-clause-holds_left : goal.returns-in_err-answer-clause-holds_left
+returns-in_err-answer-clause-holds_left g c = λ tells me ps follows.
+    let packet = c.args.packet.now in
+    let each = c.feed.ensures.heard (followed me ps) follows.hears in
+    let more = packet_heard me packet ps c.feed.new.each c.pid_of.result c.pid_of.ensures each in
+    let f = g.F.Flash in
+    subst (λ (items : List Heard). LeavesOnly f.moment f.left_since c.args.flash.now c.hear_each.new.flash (HoldsHeard (geometry_of c.args.self.now.collector.bank) me items (f.contents c.args.flash.now))) more
+    (c.hear_each.ensures.holds_left tells me (heard_by me ps) follows.collects)
+
+pub returns-clause-holds : goal.returns-clause-holds
+returns-clause-holds g c = λ tells me ps follows.
+    let packet = c.args.packet.now in
+    let each = c.feed.ensures.heard (followed me ps) follows.hears in
+    let more = packet_heard me packet ps c.feed.new.each c.pid_of.result c.pid_of.ensures each in
+    let f = g.F.Flash in
+    subst (λ (items : List Heard). HoldsHeard (geometry_of c.args.self.now.collector.bank) me items (f.contents c.args.flash.now) (f.contents c.hear_each.new.flash)) more
+    (c.hear_each.ensures.holds tells me (heard_by me ps) follows.collects)
+
+pub returns-clause-holds_left : goal.returns-clause-holds_left
+returns-clause-holds_left g c = λ tells me ps follows.
+    let packet = c.args.packet.now in
+    let each = c.feed.ensures.heard (followed me ps) follows.hears in
+    let more = packet_heard me packet ps c.feed.new.each c.pid_of.result c.pid_of.ensures each in
+    let f = g.F.Flash in
+    subst (λ (items : List Heard). LeavesOnly f.moment f.left_since c.args.flash.now c.hear_each.new.flash (HoldsHeard (geometry_of c.args.self.now.collector.bank) me items (f.contents c.args.flash.now))) more
+    (c.hear_each.ensures.holds_left tells me (heard_by me ps) follows.collects)

@@ -11,7 +11,7 @@ pub returns : goal.returns
 returns c = record {
   stands = λ box file bank_len.
       let none : level_6 box [] ≡ [] = no_carousel box [] (level_5-none box) in
-      let not_held : held c.new-2.result ≡ None = ap (λ x. message_if x c.new-2.result.message.items) c.new-2.ensures.choice in
+      let not_held : held c.new-2.result ≡ None = ap message_if c.new-2.ensures.choice in
       record {
         tables = c.new.ensures.stands box file;
         terms = record {

@@ -1,0 +1,19 @@
+use Rattle.std.proofs.Common.{◌≡◌, ◌-◌, ◌≤◌}
+use Rattle.bank_kept.specs.Bank.{area_of_bank}
+use Rattle.flash_bank.specs.Bank.{IsLent}
+use Rattle.flash_journal.specs.Looks.{Looks}
+use Rattle.flash_journal.proofs.FreeLaws.{free_below}
+use Rattle.flash_journal.proofs.slot.free_count.Given as goal
+
+abbrev pub invariant-loop-slot : goal.invariant-loop-slot
+invariant-loop-slot g l = record {
+  fits : l.slot ≤ 16;
+  few : l.count ≤ l.slot;
+  lent : IsLent g.F.Flash.tells g.F.Flash.contents g.F.Flash.block_count g.F.Flash.block_len l.bank l.flash;
+  so_far : g.F.Flash.tells → l.count ≡ free_below (area_of_bank l.fn.bank) (g.F.Flash.contents l.fn.flash) l.slot;
+  looks : Looks g.F.Flash.tells g.F.Flash.contents g.F.Flash.block_count g.F.Flash.block_len g.F.Flash.moment g.F.Flash.left_since l.fn.flash l.fn.bank l.flash l.bank;
+  faults : g.F.Flash.faults l.fn.flash ≤ g.F.Flash.faults l.flash;
+}
+
+abbrev pub decreases-loop-slot : goal.decreases-loop-slot
+decreases-loop-slot g l = 16 - l.slot

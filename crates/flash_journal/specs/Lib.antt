@@ -1,0 +1,9 @@
+pub mod Beginning
+pub mod InJournal
+pub mod Looks
+pub mod Planned
+pub mod Reading
+pub mod Side
+pub mod StageLaws
+pub mod Storing
+pub mod Texts

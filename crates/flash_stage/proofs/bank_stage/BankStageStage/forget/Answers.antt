@@ -1,0 +1,24 @@
+use Rattle.std.proofs.Common.{sym, subst}
+use Rattle.flash_dev.proofs.Moments.{started}
+use Rattle.flash_bank.proofs.LeavingLemmas.{keeps_boot_same}
+use Rattle.flash_bank.specs.Bank.{geometry_of}
+use Rattle.flash_bank.specs.Leaving.{KeepsBoot}
+use Rattle.bank_kept.specs.Leaving.{HoldsNoMore}
+use Rattle.flash_stage.proofs.KeptLaws.{same_no_more}
+use Rattle.flash_stage.proofs.bank_stage.BankStageStage.forget.Goals as goal
+
+pub returns-clause-left : goal.returns-clause-left
+returns-clause-left g c tells =
+    let F = g.F.Flash in
+    let b = c.args._bank.now in
+    let f = c.args._flash.now in
+    let P = KeepsBoot (geometry_of b) (F.contents f) in
+    started F.moment F.left_since f P (λ y left. subst P (sym (g.met.F.Flash.only_now f y left)) (keeps_boot_same (geometry_of b) (F.contents f) (c.requires.lent.fits tells).sound))
+
+pub returns-clause-no_more_left : goal.returns-clause-no_more_left
+returns-clause-no_more_left g c tells =
+    let F = g.F.Flash in
+    let b = c.args._bank.now in
+    let f = c.args._flash.now in
+    let P = HoldsNoMore (geometry_of b) (F.contents f) in
+    started F.moment F.left_since f P (λ y left. subst P (sym (g.met.F.Flash.only_now f y left)) (same_no_more (geometry_of b) (F.contents f)))
