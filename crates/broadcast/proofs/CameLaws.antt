@@ -7,17 +7,17 @@ use Rattle.std.proofs.lemmas.List.Folds.{concat-append}
 use Rattle.broadcast.specs.Broadcasts.{Came, IsBrokenAt, IsDecided, IsHeadAfter, IsLeft, IsSeenAt, IsSeenOver}
 use Rattle.broadcast.specs.Packets.{Broadcast, IsFront, IsInstalledFrom, aired_packets, heard_over, packets_taken, sent_packets, up_to_packet}
 use Rattle.broadcast.proofs.PacketLaws.{IsPacketLong, aired_long, bytes_long, front_long, packets_back, take_of_front}
-use Rattle.broadcast.proofs.PlannedLaws.{planned_group}
+use Rattle.broadcast.proofs.PlannedLaws.{OpensEmpty, planned_group}
 use Rattle.broadcast_laws.specs.Planned.{IsSent}
 use Rattle.flash_layout.specs.Layout.{Geometry}
 use Rattle.flash_bank.specs.Leaving.{KeepsBoot}
 use Rattle.flash_bank.specs.Sound.{Boot, BootOf}
 use Rattle.flash_bank.specs.declared.record.Record.{Record}
 use Rattle.flash_bank.proofs.SoundLemmas.{one_boot}
+use Rattle.flash_stage.specs.Keeping.{StagesNone}
 use Rattle.route_tables.specs.Values.{Receiver}
 use Rattle.ssu_answer.specs.declared.chosen.Chosen.{Chosen}
 use Rattle.ssu_loader.specs.Decisions.{Decision, IsOpen, Reaches, TooMany, Whole, Wrong}
-use Rattle.ssu_loader.specs.Opening.{KeepsNothing}
 use Rattle.ssu_loader.specs.Replays.{BreaksAtPacket, ComesSeen, EndsWith, HearsAtPacket, HearsToEnd, ReachesNone, ReplayLeaves, TakesAndInstalls, heard_in}
 use Rattle.ssu_loader.specs.Verdicts.{IsLastSeen, IsSeen, IsUndecided}
 use Rattle.ssu_answer.specs.declared.verdict.Verdict.{Verdict}
@@ -115,9 +115,9 @@ settled_at b me Before d air u = settled b me u.front.before u.front.packet u.fr
 
 -- ---- what is installed
 
-pub installed : (b : Broadcast) (me : Receiver) → KeepsNothing me → (rest : List ℕ) (g : Geometry) (former : Boot) (x y : List ℕ) (chosen : Chosen) → IsOnAir b → BootOf g x former
+pub installed : (b : Broadcast) (me : Receiver) (rest : List ℕ) (g : Geometry) (former : Boot) (x y : List ℕ) (chosen : Chosen) → (StagesNone g x → OpensEmpty me) → IsOnAir b → BootOf g x former
     → TakesAndInstalls me (Some (bytes_of_air b)) (Some rest) g x y chosen → IsInstalledFrom b me g former.head x y chosen
-installed b me keeps rest g former x y chosen air boots t =
+installed b me rest g former x y chosen opens air boots t =
     let u = up_to b me rest (λ h. Reaches me h (Whole chosen t.image)) (IsOpen me) air t.hears in
     record {
       image = t.image;
@@ -125,15 +125,15 @@ installed b me keeps rest g former x y chosen air boots t =
       reached = u.now;
       undecided = u.earlier;
       installs = t.installs former boots;
-      planned = planned_group b me (up_to_packet u.front) u.front.behind chosen t.image air.sent
-          (u.front.parts ∙ sym (append_assoc u.front.before (u.front.packet ∷ []) u.front.behind)) keeps u.now;
+      planned = λ unspoilt none. planned_group b me (up_to_packet u.front) u.front.behind chosen t.image air.sent
+          (u.front.parts ∙ sym (append_assoc u.front.before (u.front.packet ∷ []) u.front.behind)) (opens none) u.now unspoilt;
     }
 
-pub left_so : (b : Broadcast) (me : Receiver) → KeepsNothing me → (rest : List ℕ) (g : Geometry) (former : Boot) (x y : List ℕ) → IsOnAir b → BootOf g x former
+pub left_so : (b : Broadcast) (me : Receiver) (rest : List ℕ) (g : Geometry) (former : Boot) (x y : List ℕ) → (StagesNone g x → OpensEmpty me) → IsOnAir b → BootOf g x former
     → ReplayLeaves me (Some (bytes_of_air b)) (Some rest) g x y → KeepsBoot g x y ⊎ ((chosen : Chosen) × IsInstalledFrom b me g former.head x y chosen)
-left_so b me keeps rest g former x y air boots left = elim left [
+left_so b me rest g former x y opens air boots left = elim left [
   | inl keeps ↦ inl keeps
-  | inr t ↦ inr (t.0, installed b me keeps rest g former x y t.0 air boots t.1)
+  | inr t ↦ inr (t.0, installed b me rest g former x y t.0 opens air boots t.1)
 ]
 
 -- ---- to the end
@@ -156,23 +156,23 @@ to_end b me rest Now air h =
 
 -- ---- the verdict
 
-pub came : (keeps : Bool) (b : Broadcast) (me : Receiver) → KeepsNothing me → (rest : List ℕ) (g : Geometry) (former : Boot) (x y : List ℕ) (verdict : Verdict) → IsOnAir b → BootOf g x former
+pub came : (keeps : Bool) (b : Broadcast) (me : Receiver) (rest : List ℕ) (g : Geometry) (former : Boot) (x y : List ℕ) (verdict : Verdict) → (StagesNone g x → OpensEmpty me) → IsOnAir b → BootOf g x former
     → EndsWith true keeps me (Some (bytes_of_air b)) (Some rest) g x y verdict → Came b me g former.head x y verdict
-came keeping b me keeps rest g former x y (Installed chosen) air boots ends =
-    let i = installed b me keeps rest g former x y chosen air boots ends in
+came keeps b me rest g former x y (Installed chosen) opens air boots ends =
+    let i = installed b me rest g former x y chosen opens air boots ends in
     let s = settled b me i.front.before i.front.packet i.front.behind (Whole chosen i.image) air i.front.parts i.front.within i.reached in
     record { is = (i.image, s.all); out = inr s.out; left = i }
-came keeping b me keeps rest g former x y (Nothing level) air boots ends =
+came keeps b me rest g former x y (Nothing level) opens air boots ends =
     let e = to_end b me rest _ air ends.0 in
     record { is = e.now.0; out = inl e.few; left = ends.1 }
-came keeping b me keeps rest g former x y (Incomplete chosen count) air boots ends =
+came keeps b me rest g former x y (Incomplete chosen count) opens air boots ends =
     let e = to_end b me rest _ air ends.0 in
     record { is = e.now.0; out = inl e.few; left = ends.1 }
-came keeping b me keeps rest g former x y (BadModule id want found) air boots ends =
+came keeps b me rest g former x y (BadModule id want found) opens air boots ends =
     let u = up_to b me rest (λ heard. Reaches me heard (Wrong id want found)) (IsOpen me) air ends.0 in
     let s = settled_at b me (IsOpen me) (Wrong id want found) air u in
     record { is = s.all; out = inr s.out; left = ends.1.0 }
-came keeping b me keeps rest g former x y Unsettled air boots ends =
+came keeps b me rest g former x y Unsettled opens air boots ends =
     let u = up_to b me rest _ (IsOpen me) air ends.0 in
     let s = settled b me u.front.before u.front.packet u.front.behind TooMany air u.front.parts u.front.within u.now.0 in
     record { is = s.all; out = inr s.out; left = ends.1 }

@@ -1,5 +1,5 @@
 -- What a broadcast does to the flash of a box, from its replay to its boot.
-use Rattle.std.proofs.Common.{◌≡◌, ◌≢◌, ◌⊎◌, ⊎_elim, inl, inr, ℕ, ◌-◌, ◌<◌, ◌≤◌, true, false, List, Some, Result, Ok, Err, refl, sym, ap, subst, ◌∙◌, arith}
+use Rattle.std.proofs.Common.{◌≡◌, ◌≢◌, ◌⊎◌, ⊎_elim, inl, inr, ℕ, ◌-◌, ◌<◌, ◌≤◌, true, List, Some, Result, Ok, Err, refl, sym, ap, subst, ◌∙◌, arith}
 use Rattle.std.specs.Prelude.{IfErr, IfOk}
 use Rattle.std.proofs.lemmas.Bool.{cases_lt}
 use Rattle.box_file.specs.declared.file.BoxFile.{BoxFile}
@@ -10,6 +10,8 @@ use Rattle.broadcast.specs.declared.fault.ChainFault.{ChainFault}
 use Rattle.broadcast.specs.declared.fault.ChainFault.TheVariants as chain
 use Rattle.broadcast.specs.declared.outcome.Outcome.{Outcome}
 use Rattle.broadcast_laws.specs.OneOf.{IsGroupForBox}
+use Rattle.broadcast.proofs.PlannedLaws.{OpensEmpty}
+use Rattle.broadcast.proofs.OpeningLaws.{none_opened}
 use Rattle.broadcast.proofs.CameLaws.{IsOnAir, broken_at, bytes_of_air, came, either_left, head_after, left_so, more, seen_over}
 use Rattle.flash_layout.specs.Layout.{Geometry, IsInLimits, blocks_of}
 use Rattle.flash_bank.specs.Layout.{HoldsRecord}
@@ -37,6 +39,7 @@ use Rattle.ssu_loader.specs.Replays.{EndsWith, ReplayLeaves}
 use Rattle.ssu_loader.specs.declared.fault.LoadFault.{LoadFault}
 use Rattle.ssu_loader.specs.declared.fault.LoadFault.TheVariants as load_fault
 use Rattle.ssu_answer.specs.declared.verdict.Verdict.{Verdict}
+use Rattle.flash_stage.specs.Keeping.{StagesNone}
 use Rattle.ssu_loader.proofs.FreshLaws.{same_geometry}
 use Rattle.ssu_loader.proofs.LeftLaws.{left_read}
 
@@ -72,7 +75,7 @@ pub record BootSays {F : Type 0} (f : FlashGhosts F) (mid new : F) (fault : Boot
 module _ {F : Type 0} (f : FlashGhosts F) (b : Broadcast) (box_file : BoxFile) where
   -- the box, where this record is the current one
   abbrev box_at : F → Record → Receiver
-  box_at old head = receiver_under box_file (blocks_of f old) head (opening_of false (blocks_of f old) head (f.contents old))
+  box_at old head = receiver_under box_file (blocks_of f old) head (opening_of true (blocks_of f old) head (f.contents old))
 
   abbrev Leaves : F → Boot → List ℕ → Type 0
   Leaves old former left =
@@ -117,39 +120,63 @@ module _ {F : Type 0} (f : FlashGhosts F) (b : Broadcast) (box_file : BoxFile) w
 
   -- ---- the replay
 
-  replay_leaves : (old new : F) (rest : List ℕ) (result : Result Verdict LoadFault) → IsOnAir b → ReplaysBox true false box_file result (held_seen (bytes_of_air b) rest) (flash_seen f old new)
+  -- where no group is staged, nothing is found at the opening
+  opens_empty : (old : F) (former : Boot) → IsInLimits (blocks_of f old) → BootOf (blocks_of f old) (f.contents old) former → StagesNone (blocks_of f old) (f.contents old)
+      → OpensEmpty (box_at old former.head)
+  opens_empty old former limits boots none = none_opened (blocks_of f old) (f.contents old) former limits boots none
+
+  -- A replay over a flash out of the limits only reads it.
+  limits_or_reads : (old new : F) (rest : List ℕ) (result : Result Verdict LoadFault) → ReplaysBox true true box_file result (held_seen (bytes_of_air b) rest) (flash_seen f old new)
+      → IsInLimits (blocks_of f old) ⊎ OnlyReads f.tells f.contents f.block_count f.block_len f.moment f.left_since old new
+  limits_or_reads old new rest (Ok verdict) r = inl r.ends.ready.limits
+  limits_or_reads old new rest (Err load_fault.Geometry) r = inr r.fails.1.1
+  limits_or_reads old new rest (Err load_fault.FlashFault) r = inl r.fails.0
+  limits_or_reads old new rest (Err load_fault.Foreign) r = inl r.fails.0
+  limits_or_reads old new rest (Err load_fault.Worn) r = inl r.fails.0
+  limits_or_reads old new rest (Err load_fault.Memory) r = inl r.fails.0.limits
+  limits_or_reads old new rest (Err load_fault.ReadFault) r = inl r.fails.1.ready.limits
+  limits_or_reads old new rest (Err load_fault.TooLong) r = inl r.fails.ready.limits
+
+  replay_leaves : (old new : F) (rest : List ℕ) (result : Result Verdict LoadFault) → IsOnAir b → ReplaysBox true true box_file result (held_seen (bytes_of_air b) rest) (flash_seen f old new)
       → f.tells → IsSound (blocks_of f old) (f.contents old) → (former : Boot) → BootOf (blocks_of f old) (f.contents old) former → AtAnyMoment (flash_seen f old new) (Leaves old former)
-  replay_leaves old new rest result air r tells sound former boots =
-      let me = box_at old former.head in
-      let x = f.contents old in
-      let g = blocks_of f old in
-      let at = r.at_any_moment tells sound former boots in
-      record {
-        left = weaker f.moment f.left_since old new (ReplayLeaves me (Some (bytes_of_air b)) (Some rest) g x) (Leaves old former) (λ c left. left_so b me refl rest g former x c air boots left) at.left;
-        held = left_so b me refl rest g former x (f.contents new) air boots at.held;
-      }
+  replay_leaves old new rest result air r tells sound former boots = elim (limits_or_reads old new rest result r) [
+    | inl limits ↦
+        let me = box_at old former.head in
+        let x = f.contents old in
+        let g = blocks_of f old in
+        let at = r.at_any_moment tells sound former boots in
+        let opens = opens_empty old former limits boots in
+        record {
+          left = weaker f.moment f.left_since old new (ReplayLeaves me (Some (bytes_of_air b)) (Some rest) g x) (Leaves old former)
+              (λ c left. left_so b me rest g former x c opens air boots left) at.left;
+          held = left_so b me rest g former x (f.contents new) opens air boots at.held;
+        }
+    | inr reads ↦
+        let same : Leaves old former (f.contents old) = inl (keeps_boot_same (blocks_of f old) (f.contents old) sound) in
+        record { left = left_read f old new (Leaves old former) tells reads same; held = subst (Leaves old former) (sym (reads.same tells)) same }
+  ]
 
   -- ---- without a verdict
 
-  too_long : (old new : F) (rest : List ℕ) → IsOnAir b → AreFewSent b → Fails false box_file (held_seen (bytes_of_air b) rest) (flash_seen f old new) load_fault.TooLong
+  too_long : (old new : F) (rest : List ℕ) → IsOnAir b → AreFewSent b → Fails true box_file (held_seen (bytes_of_air b) rest) (flash_seen f old new) load_fault.TooLong
       → IsTooLong b box_file (flash_seen f old new)
   too_long old new rest air few fails =
       let is = fails.reaches in
-      let m = more (IsKnown false (flash_seen f old new)) b (box_at old is.current) rest air is.fact in
+      let m = more (IsKnown true (flash_seen f old new)) b (box_at old is.current) rest air is.fact in
       inr (few, (fails.ready, (m.many, (record { current = is.current; boots = is.boots; fact = m.undecided }, fails.keeps))))
 
-  breaks_so : (old new : F) (rest : List ℕ) → IsOnAir b → Breaks false box_file (held_seen (bytes_of_air b) rest) (flash_seen f old new)
-      → OnlyReads f.tells f.contents f.block_count f.block_len f.moment f.left_since old new ⊎ (IsReady (flash_seen f old new) × AsBox false box_file (flash_seen f old new) (IsBrokenAt (IsKnown false (flash_seen f old new)) b))
+  breaks_so : (old new : F) (rest : List ℕ) → IsOnAir b → Breaks true box_file (held_seen (bytes_of_air b) rest) (flash_seen f old new)
+      → OnlyReads f.tells f.contents f.block_count f.block_len f.moment f.left_since old new ⊎ (IsReady (flash_seen f old new) × AsBox true box_file (flash_seen f old new) (IsBrokenAt (IsKnown true (flash_seen f old new)) b))
   breaks_so old new rest air breaks = elim breaks [
     | inl none ↦ inl none.1
     | inr at ↦
         let is = at.1 in
-        let fact = broken_at (IsKnown false (flash_seen f old new)) b (box_at old is.current) rest air is.fact in
+        let fact = broken_at (IsKnown true (flash_seen f old new)) b (box_at old is.current) rest air is.fact in
         inr (at.0, record { current = is.current; boots = is.boots; fact = fact })
   ]
 
   fails_so : (old new : F) (rest : List ℕ) (fault : LoadFault) → IsOnAir b → AreFewSent b
-      → Fails false box_file (held_seen (bytes_of_air b) rest) (flash_seen f old new) fault → IsFault b box_file (flash_seen f old new) (of_load fault)
+      → Fails true box_file (held_seen (bytes_of_air b) rest) (flash_seen f old new) fault → IsFault b box_file (flash_seen f old new) (of_load fault)
   fails_so old new rest load_fault.Geometry air few fails = (air.sent.buildable, (few, (fails.0, fails.1.1)))
   fails_so old new rest load_fault.FlashFault air few fails = (air.sent.buildable, (few, (fails.0, (fails.1.0, breaks_so old new rest air fails.1.1))))
   fails_so old new rest load_fault.Foreign air few fails = (air.sent.buildable, (few, (fails.0, (fails.1.0, fails.1.1.1))))
@@ -159,10 +186,10 @@ module _ {F : Type 0} (f : FlashGhosts F) (b : Broadcast) (box_file : BoxFile) w
   fails_so old new rest load_fault.TooLong air few fails = (air.sent.buildable, too_long old new rest air few fails)
 
   pub load_failed : (old new : F) (bytes rest : List ℕ) (fault : LoadFault) → IsOnAir b → AreFewSent b → bytes ≡ bytes_of_air b
-      → ReplaysBox true false box_file (Err fault) (held_seen bytes rest) (flash_seen f old new) → Broadcasts b box_file (Err (of_load fault)) (flash_seen f old new)
+      → ReplaysBox true true box_file (Err fault) (held_seen bytes rest) (flash_seen f old new) → Broadcasts b box_file (Err (of_load fault)) (flash_seen f old new)
   load_failed old new bytes rest fault air few is replays =
-      let r : ReplaysBox true false box_file (Err fault) (held_seen (bytes_of_air b) rest) (flash_seen f old new) =
-      subst (λ (l : List ℕ). ReplaysBox true false box_file (Err fault) (held_seen l rest) (flash_seen f old new)) is replays in
+      let r : ReplaysBox true true box_file (Err fault) (held_seen (bytes_of_air b) rest) (flash_seen f old new) =
+      subst (λ (l : List ℕ). ReplaysBox true true box_file (Err fault) (held_seen l rest) (flash_seen f old new)) is replays in
       record {
         at_any_moment = replay_leaves old new rest (Err fault) air r;
         ok = tt;
@@ -174,13 +201,13 @@ module _ {F : Type 0} (f : FlashGhosts F) (b : Broadcast) (box_file : BoxFile) w
 
   -- the bytes that the box was given are those of the broadcast
   pub replayed : (old mid : F) (bytes rest : List ℕ) (result : Result Verdict LoadFault) → bytes ≡ bytes_of_air b
-      → ReplaysBox true false box_file result (held_seen bytes rest) (flash_seen f old mid) → ReplaysBox true false box_file result (held_seen (bytes_of_air b) rest) (flash_seen f old mid)
-  replayed old mid bytes rest result is replays = subst (λ (l : List ℕ). ReplaysBox true false box_file result (held_seen l rest) (flash_seen f old mid)) is replays
+      → ReplaysBox true true box_file result (held_seen bytes rest) (flash_seen f old mid) → ReplaysBox true true box_file result (held_seen (bytes_of_air b) rest) (flash_seen f old mid)
+  replayed old mid bytes rest result is replays = subst (λ (l : List ℕ). ReplaysBox true true box_file result (held_seen l rest) (flash_seen f old mid)) is replays
 
   -- ---- with one
 
   module _ (old mid new : F) (rest : List ℕ) (verdict : Verdict) (air : IsOnAir b) (few : AreFewSent b)
-      (r : ReplaysBox true false box_file (Ok verdict) (held_seen (bytes_of_air b) rest) (flash_seen f old mid))
+      (r : ReplaysBox true true box_file (Ok verdict) (held_seen (bytes_of_air b) rest) (flash_seen f old mid))
       (reads : OnlyReads f.tells f.contents f.block_count f.block_len f.moment f.left_since mid new) where
     held_same : f.tells → f.contents new ≡ f.contents mid
     held_same tells = reads.same tells
@@ -190,19 +217,19 @@ module _ {F : Type 0} (f : FlashGhosts F) (b : Broadcast) (box_file : BoxFile) w
     came_to tells former boots =
         let comes = r.ends.comes in
         let me = box_at old former.head in
-        let ends = subst (λ (h : Record). EndsWith true false (box_at old h) (Some (bytes_of_air b)) (Some rest) (blocks_of f old) (f.contents old) (f.contents mid) verdict)
+        let ends = subst (λ (h : Record). EndsWith true true (box_at old h) (Some (bytes_of_air b)) (Some rest) (blocks_of f old) (f.contents old) (f.contents mid) verdict)
         (sym (comes.boots tells former boots)) (comes.fact.1 tells) in
-        came false b me refl rest (blocks_of f old) former (f.contents old) (f.contents mid) verdict air boots ends
+        came true b me rest (blocks_of f old) former (f.contents old) (f.contents mid) verdict (opens_empty old former r.ends.ready.limits boots) air boots ends
 
     came_then : f.tells → (former : Boot) → BootOf (blocks_of f old) (f.contents old) former
         → Came b (box_at old former.head) (blocks_of f old) former.head (f.contents old) (f.contents new) verdict
     came_then tells former boots =
         subst (λ (y : List ℕ). Came b (box_at old former.head) (blocks_of f old) former.head (f.contents old) y verdict) (sym (held_same tells)) (came_to tells former boots)
 
-    seen_so : AsBox false box_file (flash_seen f old new) (λ me. IsSeenOver (IsKnown false (flash_seen f old new)) b me verdict)
+    seen_so : AsBox true box_file (flash_seen f old new) (λ me. IsSeenOver (IsKnown true (flash_seen f old new)) b me verdict)
     seen_so =
         let is = r.ends.comes in
-        record { current = is.current; boots = is.boots; fact = seen_over (IsKnown false (flash_seen f old new)) b (box_at old is.current) rest verdict air is.fact.0 }
+        record { current = is.current; boots = is.boots; fact = seen_over (IsKnown true (flash_seen f old new)) b (box_at old is.current) rest verdict air is.fact.0 }
 
     pub comes_to : ComesTo b box_file (flash_seen f old new) verdict
     comes_to = record {
@@ -236,9 +263,9 @@ module _ {F : Type 0} (f : FlashGhosts F) (b : Broadcast) (box_file : BoxFile) w
           | inr t ↦ t.1.installs.commits.sound
         ])))
 
-    planned_image : f.tells → (taken : Boot) → BootOf (blocks_of f old) (f.contents mid) taken → IsUnspoilt b → (former : Boot) → BootOf (blocks_of f old) (f.contents old) former
+    planned_image : f.tells → (taken : Boot) → BootOf (blocks_of f old) (f.contents mid) taken → IsUnspoilt b → StagesNone (blocks_of f old) (f.contents old) → (former : Boot) → BootOf (blocks_of f old) (f.contents old) former
         → (former ≡ taken) ⊎ IsPlannedImage b (box_at old former.head) taken.image
-    planned_image tells taken boots unspoilt former before =
+    planned_image tells taken boots unspoilt none former before =
         elim (either_left b (box_at old former.head) (blocks_of f old) former.head (f.contents old) (f.contents mid) verdict (came_to tells former before).left) [
           | inl keeps ↦ inl (one_boot (blocks_of f old) (f.contents mid) former taken (keeps.keeps.boot former before) boots)
           | inr t ↦
@@ -247,7 +274,7 @@ module _ {F : Type 0} (f : FlashGhosts F) (b : Broadcast) (box_file : BoxFile) w
               inr (
                 t.0,
                 subst (λ (image : List ℕ). IsGroupForBox b.plan b.images (box_at old former.head) t.0.group t.0.software image)
-                    (ap (λ (x : Boot). x.image) same) (i.planned unspoilt),
+                    (ap (λ (x : Boot). x.image) same) (i.planned unspoilt none),
               )
         ]
 
@@ -265,7 +292,7 @@ module _ {F : Type 0} (f : FlashGhosts F) (b : Broadcast) (box_file : BoxFile) w
             head = λ tells former before.
                 subst (IsHeadAfter former.head outcome.booted) (sym same)
                 (head_after b (box_at old former.head) (blocks_of f old) former taken (f.contents old) (f.contents mid) verdict before (at_old tells) (came_to tells former before).left);
-            planned = λ tells unspoilt former before. planned_image tells taken (at_old tells) unspoilt former before;
+            planned = λ tells unspoilt none former before. planned_image tells taken (at_old tells) unspoilt none former before;
           };
           err = tt;
           refused = λ tells which. absurd (not_refused tells which);

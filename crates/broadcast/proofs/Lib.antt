@@ -1,3 +1,4 @@
+pub mod OpeningLaws
 pub mod PacketLaws
 pub mod PlannedLaws
 pub mod CameLaws

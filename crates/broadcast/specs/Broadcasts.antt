@@ -1,5 +1,5 @@
 -- What a whole broadcast does to a box: what it leaves in the flash, and what each answer says.
-use Rattle.std.specs.Prelude.{◌≡◌, ◌⊎◌, ℕ, ◌<◌, ◌≤◌, List, length, Result, Some, false, IfErr, IfOk}
+use Rattle.std.specs.Prelude.{◌≡◌, ◌⊎◌, ℕ, ◌<◌, ◌≤◌, List, length, Result, Some, true, IfErr, IfOk}
 use Rattle.box_file.specs.declared.file.BoxFile.{BoxFile}
 use Rattle.broadcast.specs.Packets.{Broadcast, IsFront, IsInstalledFrom, IsUnspoilt, aired_packets, heard_over, packets_taken, sent_packets, up_to_packet}
 use Rattle.broadcast.specs.declared.fault.ChainFault.{ChainFault}
@@ -13,6 +13,7 @@ use Rattle.flash_bank.specs.Sound.{Boot as Booted, BootOf, IsSound, IsWorn}
 use Rattle.flash_bank.specs.declared.fault.BootFault.{BootFault}
 use Rattle.flash_bank.specs.declared.fault.BootFault.TheVariants as boot_fault
 use Rattle.flash_bank.specs.declared.record.Record.{Record}
+use Rattle.flash_stage.specs.Keeping.{StagesNone}
 use Rattle.head_carousel.specs.Refusal.{IsBuildable, IsCause}
 use Rattle.route_tables.specs.Values.{Receiver}
 use Rattle.ssu_answer.specs.declared.build_fault.BuildFault.{BuildFault}
@@ -84,10 +85,10 @@ pub record ComesTo (b : Broadcast) (box_file : BoxFile) (flash : FlashSeen) (ver
   pub built : IsBuildable b.plan b.images
   pub few : AreFewSent b
   pub ready : IsReady flash
-  pub seen : AsBox false box_file flash (λ me. IsSeenOver (IsKnown false flash) b me verdict)
+  pub seen : AsBox true box_file flash (λ me. IsSeenOver (IsKnown true flash) b me verdict)
   -- and where the flash tells what it holds:
   pub came : flash.tells → (former : Booted) → BootOf flash.blocks flash.contents former
-      → Came b (receiver_at false box_file flash former) flash.blocks former.head flash.contents flash.contents_after verdict
+      → Came b (receiver_at true box_file flash former) flash.blocks former.head flash.contents flash.contents_after verdict
 
 -- ---- the answers
 
@@ -97,22 +98,23 @@ IsHeadAfter former head (Installed chosen) = head ≡ record_after former chosen
 IsHeadAfter former head other = head ≡ former
 
 -- The verdict is that of all the packets, and record and image are what boot takes now. Where no damaged section passes for a
--- right one, that is what it took before, or the joined files of a group of the plan that is for the box.
+-- right one, and no group was staged in the flash, that is what it took before, or the joined files of a group of the plan that is for the
+-- box.
 pub record Concludes (b : Broadcast) (box_file : BoxFile) (flash : FlashSeen) (outcome : Outcome) : Type 0 where
   pub comes : ComesTo b box_file flash outcome.verdict
   pub boots : flash.tells → BootOf flash.blocks flash.contents_after (record { head = outcome.booted; image = outcome.image.items })
   pub head : flash.tells → (former : Booted) → BootOf flash.blocks flash.contents former
       → IsHeadAfter former.head outcome.booted outcome.verdict
-  pub planned : flash.tells → IsUnspoilt b → (former : Booted) → BootOf flash.blocks flash.contents former
+  pub planned : flash.tells → IsUnspoilt b → StagesNone flash.blocks flash.contents → (former : Booted) → BootOf flash.blocks flash.contents former
       → (former ≡ record { head = outcome.booted; image = outcome.image.items })
-      ⊎ IsPlannedImage b (receiver_at false box_file flash former) outcome.image.items
+      ⊎ IsPlannedImage b (receiver_at true box_file flash former) outcome.image.items
 
 -- More packets are sent than a run takes, or more are passed on, and the first that a run takes decide nothing.
 abbrev pub IsTooLong : Broadcast → BoxFile → FlashSeen → Type 0
 IsTooLong b box_file flash =
     (most_packets < length (sent_packets b) × flash.same)
     ⊎ (AreFewSent b × (IsReady flash × (most_packets < length (aired_packets b)
-    × (AsBox false box_file flash (λ me. IsUndecided (IsKnown false flash) me (heard_over me (packets_taken b)))
+    × (AsBox true box_file flash (λ me. IsUndecided (IsKnown true flash) me (heard_over me (packets_taken b)))
     × (flash.tells → KeepsBoot flash.blocks flash.contents flash.contents_after)))))
 
 -- The flash failed at a packet before which nothing was decided.
@@ -125,7 +127,7 @@ abbrev pub IsLoadFault : Broadcast → BoxFile → FlashSeen → LoadFault → T
 IsLoadFault b box_file flash load_fault.Geometry = AreFewSent b × (¬ IsInLimits flash.blocks × flash.only_reads)
 IsLoadFault b box_file flash load_fault.FlashFault =
     AreFewSent b × (IsInLimits flash.blocks × (Rose flash.faults flash.faults_after
-    × (flash.only_reads ⊎ (IsReady flash × AsBox false box_file flash (IsBrokenAt (IsKnown false flash) b)))))
+    × (flash.only_reads ⊎ (IsReady flash × AsBox true box_file flash (IsBrokenAt (IsKnown true flash) b)))))
 IsLoadFault b box_file flash load_fault.Foreign =
     AreFewSent b × (IsInLimits flash.blocks × ((flash.tells → ¬ IsSound flash.blocks flash.contents) × flash.only_reads))
 IsLoadFault b box_file flash load_fault.Worn =
@@ -162,7 +164,7 @@ pub record Broadcasts (b : Broadcast) (box_file : BoxFile) (result : Result Outc
   -- Of sound contents boot takes, whenever the power goes, what it took, or a group that the packets carry whole for the box.
   pub at_any_moment : flash.tells → IsSound flash.blocks flash.contents → (former : Booted) → BootOf flash.blocks flash.contents former
       → AtAnyMoment flash (λ left. KeepsBoot flash.blocks flash.contents left
-      ⊎ ((chosen : Chosen) × IsInstalledFrom b (receiver_at false box_file flash former) flash.blocks former.head flash.contents left chosen))
+      ⊎ ((chosen : Chosen) × IsInstalledFrom b (receiver_at true box_file flash former) flash.blocks former.head flash.contents left chosen))
   -- What each answer says. There is no other one.
   pub ok : IfOk result (Concludes b box_file flash)
   pub err : IfErr result (IsFault b box_file flash)

@@ -8,6 +8,7 @@ use Rattle.broadcast_laws.specs.Undeceived.{IsUndeceived}
 use Rattle.flash_layout.specs.Layout.{Geometry}
 use Rattle.flash_bank.specs.Leaving.{Installs}
 use Rattle.flash_bank.specs.declared.record.Record.{Record}
+use Rattle.flash_stage.specs.Keeping.{StagesNone}
 use Rattle.head_carousel.specs.Sections.{sections_of}
 use Rattle.head_mux.specs.Sent.{sent}
 use Rattle.head_plan.specs.Plans.{PlanData}
@@ -58,11 +59,12 @@ abbrev pub up_to_packet : {b : Broadcast} → IsFront b → List (List ℕ)
 up_to_packet front = front.before ++ front.packet ∷ []
 
 -- The packets up to one of them carry this group whole, not without it, and y is x with its image installed, under the record that
--- follows the former one. With the premise that no damaged section passes for a right one, it is a group of the plan for the box.
+-- follows the former one. With the premises that no damaged section passes for a right one, and that no group was staged in x, it is a
+-- group of the plan for the box.
 pub record IsInstalledFrom (b : Broadcast) (me : Receiver) (g : Geometry) (former : Record) (x y : List ℕ) (chosen : Chosen) : Type 0 where
   pub image : List ℕ
   pub front : IsFront b
   pub reached : Reaches me (heard_over me (up_to_packet front)) (Whole chosen image)
   pub undecided : IsOpen me (heard_over me front.before)
   pub installs : Installs g (record_after former chosen) image x y
-  pub planned : IsUnspoilt b → IsGroupForBox b.plan b.images me chosen.group chosen.software image
+  pub planned : IsUnspoilt b → StagesNone g x → IsGroupForBox b.plan b.images me chosen.group chosen.software image

@@ -15,7 +15,7 @@ use air_channel::Script;
 use box_file::BoxFile;
 use flash_bank::BootFault;
 use flash_dev::Flash;
-use flash_stage::BankStage;
+use flash_journal::JournalStage;
 use head_plan::Plan;
 use ssu_loader::{LoadFault, replay};
 use std::alloc::Global;
@@ -24,8 +24,9 @@ use std::alloc::Global;
 /// gives the packets, as the script changes them, to the box; and boots.
 ///
 /// The packets are held in memory all at once. Whenever the power goes, boot takes what it took before or, as a whole, a group that
-/// the packets carry whole for the box. Where no damaged section passes for a right one, that is the joined files of a group of the
-/// plan whose OUI, model and version are the box's and whose software its rule admits.
+/// the packets carry whole for the box, with the places of it that the flash had staged. Where no damaged section passes for a right one,
+/// and the flash had no group staged, that is the joined files of a group of the plan whose OUI, model and version are the box's and whose
+/// software its rule admits.
 ///
 /// # Errors
 ///
@@ -48,7 +49,7 @@ pub fn broadcast_then_boot<F: Flash>(
     read_ranges(plan);
     let bytes = aired_bytes(alloc, plan, images, script)?;
     let mut air = Held::new(alloc, bytes);
-    let verdict = match replay::<Held, F, BankStage>(alloc, me, &mut air, flash) {
+    let verdict = match replay::<Held, F, JournalStage>(alloc, me, &mut air, flash) {
         Ok(verdict) => verdict,
         Err(fault) => return Err(load_fault(fault)),
     };

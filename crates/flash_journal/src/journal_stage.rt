@@ -50,7 +50,7 @@ impl JournalStage {
     ghost use Rattle.ssu_io.specs.Faults.{HasCause};
 
     /// Whether the flash has the group of this message staged, which is that of a DII that is usable for the bank; `start` with it goes
-    /// on with the places that are there. The current record is not the one with the greatest number. Nothing changes.
+    /// on with the places that are there. Nothing changes.
     /// `FlashFault` comes only where the flash failed and its count of faults rose; the bank is spent then.
     pub fn staged<F: Flash>(
         &self,
@@ -59,7 +59,6 @@ impl JournalStage {
         message: &[u8],
     ) -> Result<bool, FlashFault>
         requires lent { IsLent F.tells F.contents F.block_count F.block_len bank.old flash.old }
-        requires next_fits { (current_of bank.old).number < 4294967295 }
         requires usable { SpellsUsable bank.old message.now }
         ensures lent { OnOk result (IsLent F.tells F.contents F.block_count F.block_len bank.new flash.new) }
         ensures found { F.tells → IfOk result (λ yes. IsTrue yes
@@ -75,6 +74,10 @@ impl JournalStage {
             return Ok(false);
         };
         if !keeps_places(bank, plan.places) {
+            return Ok(false);
+        }
+        // Behind the record with the greatest number comes none, so a header names none.
+        if bank.current().number == u32::MAX {
             return Ok(false);
         }
         is_staged(bank, flash, message, &plan)

@@ -54,10 +54,10 @@ pub trait Stage: Sized + Drop {
     /// What the flash holds is as the stage left it.
     ghost agrees: { Self → Bank → List ℕ → Type 0 };
 
-    /// Whether what is staged stands in the spare bank.
+    /// Whether what is staged stands in the spare bank, but for a group that is kept, of which some may stand in slots of the journal.
     ghost IN_BANK: { Bool };
 
-    /// Whether what is staged stands in the spare bank.
+    /// Whether what is staged stands in the spare bank, but for a group that is kept, of which some may stand in slots of the journal.
     const IN_BANK: bool;
 
     /// Whether it keeps the places that the flash has staged of a group that is begun again.
@@ -250,12 +250,11 @@ pub trait Stage: Sized + Drop {
         ensures block_size { F.block_len flash.new ≡ F.block_len flash.old }
         ensures cause { HasCause (F.faults flash.old) (F.faults flash.new) result };
 
-    /// Lets go of the group: no place of it is staged, and in the flash none is. A stage that keeps nothing makes no call of
-    /// the flash. `FlashFault` comes only where the flash failed and its count of faults rose; the bank is spent then.
+    /// Lets go of the group, if it began one: no place of it is staged, and in the flash none is. A stage that keeps nothing makes no call
+    /// of the flash, and over layout 1 none does. `FlashFault` comes only where the flash failed and its count of faults rose; the bank is
+    /// spent then.
     fn forget<F: Flash>(&mut self, bank: &mut Bank, flash: &mut F) -> Result<(), FlashFault>
         requires lent { IsLent F.tells F.contents F.block_count F.block_len bank.old flash.old }
-        requires ready { ready self.old bank.old }
-        requires agrees { F.tells → agrees self.old bank.old (F.contents flash.old) }
         ensures lent { OnOk result (IsLent F.tells F.contents F.block_count F.block_len bank.new flash.new) }
         ensures plan { plan_of self.new ≡ plan_of self.old }
         ensures empty { OnOk result ((number : ℕ) → number < (plan_of self.old).places → has self.new number ≡ false) }
@@ -268,6 +267,8 @@ pub trait Stage: Sized + Drop {
             (HoldsNoMore (geometry_of bank.old) (F.contents flash.old)) }
         ensures alone { KEEPS ≡ false → flash.new ≡ flash.old }
         ensures bank_alone { KEEPS ≡ false → bank.new ≡ bank.old }
+        ensures alone_one { (current_of bank.old).layout ≡ 1 → flash.new ≡ flash.old }
+        ensures bank_alone_one { (current_of bank.old).layout ≡ 1 → bank.new ≡ bank.old }
         ensures spent { OnErr result (is_spent bank.new ≡ true) }
         ensures same_bank { SameBank bank.old bank.new }
         ensures most { most self.new ≡ most self.old }

@@ -8,6 +8,8 @@ mod night_tests;
 #[cfg(test)]
 pub mod public_names;
 #[cfg(test)]
+mod resume_tests;
+#[cfg(test)]
 mod ssu_tool_tests;
 #[cfg(test)]
 mod stored_blocks_tests;

@@ -1,5 +1,5 @@
 -- Commands on a flash with spares.
-use Rattle.std.proofs.Common.{◌≡◌, ◌⊎◌, inl, inr, ⊎_elim, ◌+◌, ◌-◌, ◌*◌, ℕ, List, true, false, refl, sym, ◌∙◌, subst, ap, arith}
+use Rattle.std.proofs.Common.{◌≡◌, ◌⊎◌, inl, inr, ⊎_elim, ◌+◌, ◌-◌, ◌*◌, ℕ, List, true, refl, sym, ◌∙◌, subst, ap, arith}
 use Rattle.std.specs.Prelude.{Result, Ok, Err, OnOk}
 use Rattle.std.proofs.lemmas.Bool.{cases_lt}
 use Rattle.flash_bank.specs.Leaving.{KeepsBoot}
@@ -46,7 +46,7 @@ fault_rose (ToBlank blocks) status shelf air flash made out on does is = absurd 
 fault_rose (ToFormat name) status shelf air flash made out on does is = subst (λ (s : Status). OnFlashFault s (Rose flash.faults flash.faults_after)) is does.0.flash_cause
 fault_rose ToBoot status shelf air flash made out on does is = subst (λ (s : Status). OnFlashFault s (Rose flash.faults flash.faults_after)) is does.0.flash_cause
 fault_rose ToMigrate status shelf air flash made out on does is = subst (λ (s : Status). OnFlashFault s (Rose flash.faults flash.faults_after)) is does.0.flash_cause
-fault_rose ToReplay status shelf air flash made out on does is = (subst (λ (s : Status). Says true false s shelf air flash out) is does.0.answers).fails.1.0
+fault_rose ToReplay status shelf air flash made out on does is = (subst (λ (s : Status). Says true true s shelf air flash out) is does.0.answers).fails.1.0
 fault_rose ToAir status shelf air flash made out on does is = absurd on
 fault_rose (ToAudit pid) status shelf air flash made out on does is = absurd on
 fault_rose (ToAuditWithNotice pid notice) status shelf air flash made out on does is = absurd on
@@ -118,7 +118,7 @@ module _ {F : Type 0} (f : FlashGhosts F) where
         keeps : f.tells → IsSound (seen_of f k before after).blocks (contents_of before.remap) → (former : Boot)
             → BootOf (seen_of f k before after).blocks (contents_of before.remap) former → (left : List ℕ) → f.left_since new (f.moment flash) left
             → KeepsBoot (seen_of f k before after).blocks (contents_of before.remap) (logical (geometry_of before.remap) left)
-            ⊎ InstallsForBox false shelf air (seen_of f k before after) former (logical (geometry_of before.remap) left)
+            ⊎ InstallsForBox true shelf air (seen_of f k before after) former (logical (geometry_of before.remap) left)
         keeps tells sound former boots left since =
             let G : Geometry = geometry_of before.remap in
             let blocks = (seen_of f k before after).blocks in

@@ -1,5 +1,5 @@
 -- What each command does, by what the words ask for. An object that a command has no use for is as it was. The places of a
--- group that `replay` collects are staged in the spare bank, and none is kept for a later replay.
+-- group that `replay` collects are staged in the spare bank, and in layout 2 a later replay finds those of a group that fits its journal.
 use Rattle.std.specs.Prelude.{true, false, Some, None}
 use Rattle.flash_bank.specs.Seen.{FlashSeen}
 use Rattle.ssu_io.specs.Seen.{ShelfSeen, SinkSeen, SourceSeen}
@@ -36,7 +36,7 @@ Does ToBoot result shelf air flash made out =
 Does ToMigrate result shelf air flash made out =
     MigrateDoes result flash out × (shelf.same × (air.same × made.same))
 Does ToReplay result shelf air flash made out =
-    Replays true false result shelf air flash out × made.same
+    Replays true true result shelf air flash out × made.same
 Does ToAir result shelf air flash made out =
     AirDoes result shelf air made out × flash.same
 Does (ToAudit pid) result shelf air flash made out =

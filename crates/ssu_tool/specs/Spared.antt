@@ -88,7 +88,7 @@ module _ {F : Type 0} (f : FlashGhosts F) where
       pub keeps : f.tells → IsSound (seen_of before after).blocks (contents_of before.remap) → (former : Boot)
           → BootOf (seen_of before after).blocks (contents_of before.remap) former → (left : List ℕ) → f.left_since new (f.moment flash) left
           → KeepsBoot (seen_of before after).blocks (contents_of before.remap) (logical (geometry_of before.remap) left)
-          ⊎ InstallsForBox false shelf air (seen_of before after) former (logical (geometry_of before.remap) left)
+          ⊎ InstallsForBox true shelf air (seen_of before after) former (logical (geometry_of before.remap) left)
 
     -- From sound logical contents, power loss at any moment since the flash was handed in leaves contents beneath whose logical contents
     -- are such that boot takes the former image, with its software and group.

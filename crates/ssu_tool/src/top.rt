@@ -8,7 +8,7 @@ ghost use Rattle.ssu_status.specs.declared.status.Status.TheVariants.{Usage};
 ghost use Rattle.ssu_tool.specs.Does.{Does};
 
 use flash_dev::Flash;
-use flash_stage::BankStage;
+use flash_journal::JournalStage;
 use ssu_io::{Shelf, Sink, Source};
 use ssu_status::{Command, Status};
 use std::alloc::Global;
@@ -83,7 +83,7 @@ pub(crate) fn dispatch<H: Shelf, A: Source, F: Flash, W: Sink, T: Sink>(
         Command::Format(name) => format(alloc, &name, shelf, flash, out),
         Command::Boot => boot(flash, made, out),
         Command::Migrate => migrate(flash, out),
-        Command::Replay => replay::<H, A, F, T, BankStage>(alloc, shelf, air, flash, out),
+        Command::Replay => replay::<H, A, F, T, JournalStage>(alloc, shelf, air, flash, out),
         Command::Air => tool_air::air(alloc, shelf, air, made, out),
         Command::Audit(pid) => audit(alloc, pid, None, air, out),
         Command::AuditWithNotice(pid, notice) => audit(alloc, pid, Some(notice), air, out),

@@ -84,8 +84,8 @@ abbrev pub HoldsBox : Option (List File) → BoxFile → Type 0
 HoldsBox (Some files) box_file = TellsBox (Some files) box_file
 HoldsBox None box_file = ⊥
 
--- The shelf told a box, the packets that were taken carry this group whole for it, not without the last of them, and y is x with
--- its image installed.
+-- The shelf told a box, the packets that were taken carry this group whole for it, with the places of it that the stage kept and not without
+-- the last packet, and y is x with its image installed.
 pub record InstallsForBox (keeps : Bool) (shelf : ShelfSeen) (air : SourceSeen) (flash : FlashSeen) (former : Boot) (left : List ℕ) : Type 0 where
   pub box_file : BoxFile
   pub told : TellsBox shelf.held box_file

@@ -27,12 +27,13 @@ use Rattle.ts_input.specs.Packets.{IsWithin}
 pub record Replays (in_bank keeps : Bool) (result : Status) (shelf : ShelfSeen) (air : SourceSeen) (flash : FlashSeen)
     (out : SinkSeen) : Type 0 where
   -- From sound contents, whatever packets come, power loss at any moment, within an erase or program too, leaves a
-  -- flash whose boot takes the former image, or a matching, admitted group that the packets taken carry whole.
+  -- flash whose boot takes the former image, or a matching, admitted group that the packets taken carry whole, with the
+  -- places of it that the stage kept.
   pub at_any_moment : flash.tells → IsSound flash.blocks flash.contents
       → (former : Boot) → BootOf flash.blocks flash.contents former → AtAnyMoment flash
       (λ left. KeepsBoot flash.blocks flash.contents left ⊎ InstallsForBox keeps shelf air flash former left)
-  -- If packets at the front carry a group whole, that is decided first, and no call fails, the answer is Installed,
-  -- and boot takes its image.
+  -- If packets at the front, with the places kept, carry a group whole, that is decided first, and no call fails, the
+  -- answer is Installed, and boot takes its image.
   pub carried : flash.tells → IsReady flash → (former : Boot) → BootOf flash.blocks flash.contents former
       → (box_file : BoxFile) → HoldsBox shelf.held box_file → NoneFailed shelf air flash out → ¬ (result ≡ NoMemory)
       → (front rest : List ℕ) (chosen : Chosen) (image : List ℕ) → air.left ≡ Some (front ++ rest)

@@ -5,13 +5,14 @@ use Rattle.dsmcc_msg.proofs.Exact.{dii_message_exact}
 use Rattle.dsmcc_msg.specs.Control.{DiiFields, dii_message}
 use Rattle.flash_bank.specs.Bank.{geometry_of, len_of}
 use Rattle.flash_bank.specs.declared.bank.Bank.{Bank}
+use Rattle.flash_bank.specs.declared.record.Record.{Record}
 use Rattle.flash_kept.proofs.Cases.{some_one}
 use Rattle.flash_stage.specs.Keeping.{IsPlanOfMessage}
 use Rattle.ssu_group.specs.Lays.{IsPlanOf}
 use Rattle.ssu_group.specs.Refusal.{refusal}
 use Rattle.ssu_group.specs.declared.group_plan.GroupPlan.{GroupPlan}
 use Rattle.ssu_group.specs.declared.unusable.Unusable.{Unusable}
-use Rattle.flash_journal.proofs.PlainLaws.{never_kept}
+use Rattle.flash_journal.proofs.PlainLaws.{last_none, never_kept}
 use Rattle.flash_journal.proofs.StartLaws.{plain_none}
 use Rattle.flash_journal.specs.Beginning.{SpellsUsable}
 use Rattle.flash_journal.proofs.journal_stage.JournalStage.staged.Goals as goal
@@ -45,6 +46,12 @@ returns-then-not-keeps_places-clause-found g c tells =
     let of = plan_of_message b c.args.message.now u c.in-Some.dii c.in-Ok.plan own c.in-Ok.ensures.usable.1 in
     let never = never_kept b c.in-Ok.plan.places (sym c.keeps_places.ensures ∙ c.if-not-keeps_places.true) in
     (λ false_true. absurd (let off : false ≡ true = false_true in cc), λ staged. absurd (plain_none b (g.F.Flash.contents c.args.flash.now) c.args.message.now c.in-Ok.plan (c.requires.lent.fits tells) of never staged.0 staged.1))
+
+pub returns-then-current-eq4294967295-clause-found : goal.returns-then-current-eq4294967295-clause-found
+returns-then-current-eq4294967295-clause-found g c tells =
+    let b = c.args.bank.now in
+    let last = ap (λ (h : Record). h.number) (sym c.current.ensures.value) ∙ c.if-current-eq4294967295.true in
+    (λ false_true. absurd (let off : false ≡ true = false_true in cc), λ staged. absurd (last_none b (g.F.Flash.contents c.args.flash.now) c.args.message.now (c.requires.lent.fits tells) last staged.0 staged.1))
 
 pub is_staged-requires-clause-of_message : goal.is_staged-requires-clause-of_message
 is_staged-requires-clause-of_message g c =
