@@ -1,16 +1,21 @@
 #!/usr/bin/env python3
 """Times the commands of `ssu` on a night's update of 4 MB in three files, sent in 4,000 turns (a stream of 14 MB).
 
-It makes the folder bench/out/commands, builds the stream, and prints for each command the least processor time of twenty
+It makes a folder in memory, where the system has /dev/shm, and builds the stream, and prints for each command the least processor time of twenty
 runs, in milliseconds, and its ratio to `hear` on the carousel's PID. `sample 0` makes its own stream. `air` has a script that changes nothing, and what it
 makes is thrown away as the output of the others is. usage: bench/commands.py
 """
+import atexit
 import os
 import resource
+import shutil
 import subprocess
+import tempfile
 
 TOP = os.path.dirname(os.path.dirname(os.path.abspath(__file__)))
-FOLDER = os.path.join(TOP, "bench", "out", "commands")
+# A replay syncs each of its writes, which takes minutes on a disk.
+FOLDER = tempfile.mkdtemp(dir="/dev/shm" if os.access("/dev/shm", os.W_OK) else None)
+atexit.register(shutil.rmtree, FOLDER)
 # The program itself, and not the script that builds it, whose start would be measured too.
 SSU = os.environ.get("SSU") or os.path.join(TOP, "crates", "ssu", "out", "ssu")
 PLAN = '''ts = 1
@@ -66,15 +71,13 @@ def least_time(words, prepare=lambda: None):
     return 1000 * min(times)
 
 
-os.makedirs(FOLDER, exist_ok=True)
 for k, (name, length) in enumerate([("a.bin", 2000000), ("b.bin", 2000000), ("c.bin", 194304)]):
     with open(os.path.join(FOLDER, name), "wb") as file:
         file.write(bytes((i + i // 251 + 31 * k) % 256 for i in range(length)))
 for name, text in [("plan.toml", PLAN), ("box.toml", BOX), ("script.toml", "")]:
     with open(os.path.join(FOLDER, name), "w") as file:
         file.write(text)
-if not os.path.islink(os.path.join(FOLDER, "aired.ts")):
-    os.symlink(os.devnull, os.path.join(FOLDER, "aired.ts"))
+os.symlink(os.devnull, os.path.join(FOLDER, "aired.ts"))
 if not os.access(SSU, os.X_OK):
     subprocess.run([os.path.join(TOP, "ssu"), "--version"], stdout=subprocess.DEVNULL, check=True)
 built = least_time(["build"])

@@ -19,7 +19,6 @@ import tomllib
 
 import tables
 
-HERE = os.path.dirname(os.path.abspath(__file__))
 
 
 def expected_tables(plan):
@@ -123,6 +122,9 @@ def main():
         print(__doc__.strip())
         return 2
     folder = sys.argv[1]
+    if not os.path.isfile(os.path.join(folder, "plan.toml")):
+        print("%s has no plan.toml" % folder)
+        return 2
     with open(os.path.join(folder, "plan.toml"), "rb") as file:
         plan = tomllib.load(file)
     air = os.path.join(folder, "air.ts")
@@ -140,15 +142,13 @@ def main():
     else:
         print("tshark: not installed, skipped")
     with tempfile.TemporaryDirectory() as place:
-        program = os.path.join(place, "tables")
-        built = subprocess.run(["cc", "-o", program, os.path.join(HERE, "tables.c"), "-ldvbpsi"], capture_output=True)
         if (plan["service"], plan["pmt_pid"]) != (3, 256):
             print("libdvbpsi: the program is not 3 on PID 256, skipped")
-        elif built.returncode == 0:
-            text = subprocess.run([program, air], capture_output=True, text=True).stdout
-            wrong += compare("libdvbpsi", "tables", tables.fields_of_dvbpsi(text), expected_tables(plan))
         else:
-            print("libdvbpsi: not installed, skipped")
+            program = tables.dvbpsi_program(place)
+            if program:
+                text = subprocess.run([program, air], capture_output=True, text=True).stdout
+                wrong += compare("libdvbpsi", "tables", tables.fields_of_dvbpsi(text), expected_tables(plan))
     return 1 if wrong else 0
 
 

@@ -12,6 +12,7 @@ usage: outside/disk_full.py            exits with 0 where every run ended as it 
 """
 import os
 import resource
+import shutil
 import signal
 import subprocess
 import sys
@@ -81,7 +82,8 @@ def writes(tally, folder, words):
 def on_a_small_disk(tally, path):
     """`blank` of more blocks than a file system in memory has, where it may be mounted."""
     os.mkdir(path)
-    if subprocess.run(["mount", "-t", "tmpfs", "-o", "size=%d" % (20 * BLOCK), "tmpfs", path], capture_output=True, check=False).returncode:
+    mount = ["mount", "-t", "tmpfs", "-o", "size=%d" % (20 * BLOCK), "tmpfs", path]
+    if not shutil.which("mount") or subprocess.run(mount, capture_output=True, check=False).returncode:
         print("no file system can be mounted: a full disk is tried by the limit on the size of a file alone")
         return
     try:

@@ -1,10 +1,11 @@
 #!/usr/bin/env python3
 """Measures the memory of each command: its greatest resident size, as /usr/bin/time tells it.
 
-`replay` is measured on a flash of 22 blocks, and on one of 32,768 blocks (128 MiB) with an update that fills a bank; `find` also with a
-box.toml of 5 MB, since a file that is read whole takes memory by its length. What docs/PERFORMANCE.md states is compared: each command
-takes at most 3 MiB, and besides it a file that is read whole twice its length, `load` the image of its group, `replay` a map of the blocks
-of its group, and `build` not much more than three times the length of its files.
+`replay` is measured on a flash of 22 blocks, which has layout 1, on one of 520, and on one of 32,768 blocks (128 MiB) with an update that fills a
+bank, on the last two also where half of the group is stored already. `find` is measured also with a box.toml of 5 MB, since a file that is read whole
+takes memory by its length. What docs/PERFORMANCE.md states is compared: each command takes at most 3 MiB, and besides it a file that is read whole
+twice its length, `load` the image of its group, `replay` a map of the blocks of its group, and `build` not much more than three times the length of
+its files.
 
 Of `replay` it is found, too, how much memory that it may write the system has to grant it for its data, its heap among them and its stack
 not: the same replay under a limit (RLIMIT_DATA) that is found by bisection, to a page. With a stack of at most 256 KiB besides, it is compared with the
@@ -97,6 +98,15 @@ def work(folder):
         table.line(" ".join(words), peak(folder, words), SMALL)
     folder.must("format", "old.bin")
     table.line("replay, 22 blocks, its data alone", least_data(folder), MIB - STACK + 22 * BLOCK // 16)
+    folder.must("blank", "520")
+    folder.must("format", "old.bin")
+    table.line("replay, 520 blocks", peak(folder, ("replay",)), SMALL)
+    folder.must("format", "old.bin")
+    folder.store_front(24)
+    half = folder.read("flash.bin")
+    table.line("replay, 520 blocks, half of it stored", peak(folder, ("replay",)), SMALL)
+    folder.write("flash.bin", half)
+    table.line("the same, its data alone", least_data(folder), MIB - STACK + 520 * BLOCK // 16)
     folder.write("flash.bin", layout_one())
     table.line("migrate, 514 blocks", peak(folder, ("migrate",)), SMALL)
     folder.write("box.toml", BOX + "#" * 5000000 + "\n")
@@ -113,6 +123,9 @@ def work(folder):
     table.line("replay, %d blocks" % LARGE_BLOCKS, peak(folder, ("replay",)), SMALL + BLOCK_MAP)
     folder.must("format", "old.bin")
     table.line("replay, %d blocks, its data alone" % LARGE_BLOCKS, least_data(folder), MIB - STACK + BLOCK_MAP)
+    folder.must("format", "old.bin")
+    folder.store_front(len(folder.read("air.ts")) // 376)
+    table.line("replay, %d blocks, half of it stored" % LARGE_BLOCKS, peak(folder, ("replay",)), SMALL + BLOCK_MAP)
     return 1 if table.over else 0
 
 

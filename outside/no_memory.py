@@ -1,9 +1,10 @@
 #!/usr/bin/env python3
 """Refuses memory to a command: each request for it in turn, in a run of its own, until a run meets no more of them.
 
-`build`, `air`, `replay`, `audit` and `sample 0` are run so, with a library before the C library's that refuses one call of malloc or realloc. A run must end
-with 15, `ssu: out of memory` and nothing printed, and leave every file as it was and make none; or, where it can do without, as it does with ample
-memory. Without a C compiler the script says so and ends with 0.
+`build`, `air`, `replay`, `audit` and `sample 0` are run so, with a library before the C library's that refuses one call of malloc or realloc; `replay` on a
+flash of 6 blocks, and on one of 520 with half of its group stored already. A run must end with 15, `ssu: out of memory` and nothing printed, and
+leave every file as it was and make none; or, where it can do without, as it does with ample memory. Without a C compiler the script says so and
+ends with 0.
 
 usage: outside/no_memory.py            exits with 0 where every run ended as it may
 """
@@ -14,16 +15,20 @@ import tempfile
 
 from program import HERE, NO_MEMORY, Ended, Tally, in_folder, is_missing
 
-# Each command, and the file that it makes.
-COMMANDS = [(("build",), "air.ts"), (("air",), "aired.ts"), (("replay",), None), (("audit", "258"), None), (("sample", "0"), None)]
+SMALL, LARGE = 6, 520
+# Each command, the file that it makes, and the blocks of the flash.
+COMMANDS = [(("build",), "air.ts", SMALL), (("air",), "aired.ts", SMALL), (("replay",), None, SMALL), (("replay",), None, LARGE),
+            (("audit", "258"), None, SMALL), (("sample", "0"), None, SMALL)]
 # More requests than any of them makes.
 MOST = 5000
 
 
-def refuse_each(folder, library, words, made, tally):
+def refuse_each(folder, library, words, made, blocks, tally):
     """Each request of the command refused in turn. The library tells by the file `refused` that one was."""
-    name = " ".join(words)
-    folder.prepare()
+    name = " ".join(words) + (" (%d blocks)" % blocks if words == ("replay",) else "")
+    folder.prepare(blocks)
+    if blocks == LARGE:
+        folder.store_front(24)
     if made and folder.has(made):
         os.remove(folder.file(made))
     before = folder.files()
@@ -53,8 +58,8 @@ def work(folder):
     with tempfile.TemporaryDirectory() as path:
         library = os.path.join(path, "no_memory.so")
         subprocess.run(["cc", "-shared", "-fPIC", "-O1", "-o", library, os.path.join(HERE, "no_memory.c"), "-ldl"], check=True)
-        for words, made in COMMANDS:
-            refuse_each(folder, library, words, made, tally)
+        for words, made, blocks in COMMANDS:
+            refuse_each(folder, library, words, made, blocks, tally)
     return tally.end("runs without memory")
 
 

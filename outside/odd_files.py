@@ -77,11 +77,15 @@ FORBIDDEN = [
 ]
 
 
-def refused(tally, folder, what, words, status, text, **how):
-    """The command must be refused so, and no file may change."""
+def refused(tally, folder, what, words, status, text, closed=None, **how):
+    """The command must be refused so, and no file may change. The file of the name `closed` may not be opened meanwhile."""
     files = folder.files()
     what = "%s, %s" % (" ".join(words), what)
+    if closed:
+        os.chmod(folder.file(closed), 0)
     tally.same(what, folder.answer(*words, **how), Ended(status, "", "ssu: %s\n" % text))
+    if closed:
+        os.chmod(folder.file(closed), 0o644)
     tally.same(what + ": the files", folder.files(), files)
 
 
@@ -117,9 +121,7 @@ def forbidden(tally, folder):
             print("the program cannot be run as another user: files that may not be read are skipped")
             return
         for name, words, status, text in FORBIDDEN:
-            os.chmod(folder.file(name), 0)
-            refused(tally, folder, name + " may not be opened", words, status, text, **how)
-            os.chmod(folder.file(name), 0o644)
+            refused(tally, folder, name + " may not be opened", words, status, text, closed=name, **how)
     finally:
         program.SSU = kept
 

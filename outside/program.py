@@ -122,6 +122,15 @@ class Folder:
         self.must("blank", str(blocks))
         self.must("format", "old.bin")
 
+    def store_front(self, packets):
+        """A replay of so many packets of the stream alone, which must store a part of its group."""
+        whole = self.read("air.ts")
+        self.write("air.ts", whole[:188 * packets])
+        status, line = self.run("replay")
+        if status != INCOMPLETE:
+            sys.exit("replay of %d packets ended with %d and %r" % (packets, status, line))
+        self.write("air.ts", whole)
+
     def run_killed(self, at, *words):
         """Kills the command at its write to flash.bin of that number, from 1. Gives None where it was killed, else its status."""
         calls = "write,pwrite64,writev"

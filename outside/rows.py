@@ -296,6 +296,50 @@ def carousels(case):
     case.answers("boot after them", ("boot",), DONE, BOOT_OLD)
 
 
+def kept_blocks(case):
+    """Layout 2 keeps the blocks of a group that is not whole, for a later choice and for a later replay with the same message."""
+    folder = case.folder
+    blocks = [bytes([block]) * 1000 for block in range(4)]
+    usable, other, wrong = (s.dii([(1, 4000, *rest)]) for rest in ((0, b""), (1, b""), (0, s.crc_descriptor(0))))
+    none, one = s.dsi([(s.GROUP, 9, s.compatibility((8, 8), (1, 2)))]), s.dsi([(s.GROUP, 9, FITTING)])
+    halves = [s.ddb(1, block, data) for block, data in enumerate(blocks)]
+    installed = "installed group 2147483650 software 1.2 bytes 4000\n"
+    for spares in ((), ("spares", "2")):
+        folder.prepare(523 if spares else 520)
+        folder.must("format", "old.bin", *spares)
+        folder.write("box.toml", FIXED)
+        before = folder.read("flash.bin")
+
+        def replays(what, messages, missing, status=INCOMPLETE, line=None):
+            line = line or "incomplete group 2147483650 missing %d\n" % missing
+            case.on_carousel(" ".join((what, *spares)), ("replay", *spares), [one, *messages], status, line)
+
+        def boots():
+            case.answers(" ".join(("boot of what was kept", *spares)), ("boot", *spares), DONE, "boot bank 1 number 2 software 1.2 bytes 4000\n")
+            case.same("the image of what was kept", folder.read("image.bin"), b"".join(blocks))
+
+        replays("two blocks", [usable, *halves[:2]], 2)
+        replays("the same two again", [usable, *halves[:2]], 2)
+        replays("the other two", [usable, *halves[2:]], 0, DONE, installed)
+        boots()
+        folder.write("flash.bin", before)
+        replays("the other two alone", [usable, *halves[2:]], 2)
+        replays("other bytes for one that is kept", [usable, s.ddb(1, 2, bytes(1000))], 2)
+        replays("no block", [usable], 2)
+        replays("the first two", [usable, *halves[:2]], 0, DONE, installed)
+        boots()
+        folder.write("flash.bin", before)
+        replays("two blocks of a choice that is lost, and then the others", [usable, *halves[:2], none, one, usable, *halves[2:]], 0, DONE, installed)
+        boots()
+        folder.write("flash.bin", before)
+        replays("two blocks of a version", [usable, *halves[:2]], 2)
+        replays("another version", [other], 4)
+        replays("the former version", [usable], 4)
+        replays("two blocks of a module with a wrong CRC", [wrong, *halves[:2]], 2)
+        replays("the other two of it", [wrong, *halves[2:]], 0, BAD_MODULE, "bad module 1 want 00000000 found %08x\n" % s.crc(b"".join(blocks)))
+        replays("the same module again", [wrong], 4)
+
+
 def faults_of_files(case):
     folder = case.folder
     case.answers("no stream", ("hear", "0"), READ_FAULT, err="read failed")
@@ -349,7 +393,7 @@ def a_night(case):
 def work(folder):
     case = Case(folder)
     for cases in (words_of_the_command_line, sections, times, a_small_broadcast, audits, samples, plans_and_boxes, offers, flashes, replays, spares, carousels,
-                  faults_of_files, limits, a_night):
+                  kept_blocks, faults_of_files, limits, a_night):
         folder.clear()
         cases(case)
     return case.end("answers of the program")

@@ -143,6 +143,18 @@ def compare(tool, found):
     return wrong
 
 
+def dvbpsi_program(folder):
+    """The small program over libdvbpsi, made in the folder, or None where it cannot be made."""
+    program = os.path.join(folder, "tables")
+    if not shutil.which("cc"):
+        print("cc is not installed: libdvbpsi is skipped")
+    elif subprocess.run(["cc", "-o", program, os.path.join(HERE, "tables.c"), "-ldvbpsi"], capture_output=True).returncode:
+        print("libdvbpsi: not installed, skipped")
+    else:
+        return program
+    return None
+
+
 def main():
     if "--print" in sys.argv:
         for name, _, text, _ in SECTIONS:
@@ -160,13 +172,10 @@ def main():
             wrong += compare(version, fields_of_tshark(text))
         else:
             print("tshark: not installed, skipped")
-        program = os.path.join(folder, "tables")
-        built = subprocess.run(["cc", "-o", program, os.path.join(HERE, "tables.c"), "-ldvbpsi"], capture_output=True)
-        if built.returncode == 0:
+        program = dvbpsi_program(folder)
+        if program:
             text = subprocess.run([program, path], capture_output=True, text=True).stdout
             wrong += compare("libdvbpsi", fields_of_dvbpsi(text))
-        else:
-            print("libdvbpsi: not installed, skipped")
     return 1 if wrong else 0
 
 

@@ -7,3 +7,8 @@ use std::process::Abort;
 pub fn same<T: PartialEq + Debug>(rt: &impl Abort, found: &T, wanted: &T) {
     assert_eq!(rt; *found, *wanted);
 }
+
+/// The same, with the name of the row.
+pub fn same_at<T: PartialEq + Debug>(rt: &impl Abort, row: &str, found: &T, wanted: &T) {
+    assert_eq!(rt; *found, *wanted, "{row}");
+}

@@ -4,7 +4,8 @@ ghost use Rattle.std.specs.Prelude.{◌≤◌, IfOk};
 ghost use Rattle.group_image.specs.Image.{IsFor};
 
 use crate::check::same;
-use dsmcc_msg::{Ddb, Dii, DiiWriter};
+use crate::messages;
+use dsmcc_msg::{Ddb, Dii};
 use group_image::{GroupImage, places_join_to_image, whole_image_has_all_bytes};
 use ssu_group::GroupPlan;
 use std::alloc::Global;
@@ -14,10 +15,7 @@ use std::test::Fail;
 fn plan(alloc: Global) -> Result<GroupPlan, Fail>
     ensures { IfOk result (λ plan. plan.total ≤ 8) }
 {
-    let mut writer = DiiWriter::new(alloc, 2, 2, 4)?;
-    writer.module(1, 5, 0, &[])?;
-    writer.module(2, 3, 0, &[])?;
-    let section = writer.finish().ok().ok_or("memory")?;
+    let section = messages::dii(alloc, 2, 4, &[(1, 5, 0, &[]), (2, 3, 0, &[])])?;
     let dii = Dii::read(&section).ok_or("no DII")?;
     match GroupPlan::of(&dii, 8) {
         Ok(plan) => Ok(plan),

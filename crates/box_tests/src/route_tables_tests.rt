@@ -1,11 +1,9 @@
 //! A box on its way to a carousel, section by section.
 
-ghost use Rattle.std.specs.Prelude.{length, ◌≤◌};
-
 use crate::check::same;
+use crate::messages::section;
 use box_file::BoxFile;
 use route_tables::*;
-use section_form::table_section;
 use si_desc::ServiceRef;
 use ssu_compat::{BoxId, Oui, Rule, SwId};
 use std::alloc::Global;
@@ -59,12 +57,6 @@ fn the_box(service: Option<ServiceRef>) -> Result<BoxFile, Fail> {
             version: 1,
         },
     })
-}
-
-fn section(alloc: Global, table: u8, extension: u16, body: &[u8]) -> Result<Vec<u8>, Fail>
-    requires { length body.now ≤ 4084 }
-{
-    Ok(table_section(alloc, table, extension, 0, body, true)?)
 }
 
 /// The services, the PIDs of PMT and component, the entries and the PID of the carousel; 0 where there is none.

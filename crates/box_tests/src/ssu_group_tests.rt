@@ -1,7 +1,8 @@
 //! Plans, places and maps of small groups.
 
 use crate::check::same;
-use dsmcc_msg::{Ddb, Dii, DiiWriter};
+use crate::messages::{self, Module};
+use dsmcc_msg::{Ddb, Dii};
 use ssu_group::{
     BlockMap, GroupPlan, Place, Unusable, modules_lie_in_order, places_fill_image,
     twice_is_the_first_that_stood_earlier,
@@ -9,21 +10,14 @@ use ssu_group::{
 use std::alloc::Global;
 use std::test::Fail;
 
-/// What a DII with these modules gives: each has an id, a size and descriptors.
+/// What a DII with these modules gives.
 fn plan(
     alloc: Global,
     block_size: u16,
     bank_len: u32,
-    modules: &[(u16, u32, &[u8])],
+    modules: &[Module<'_>],
 ) -> Result<Result<GroupPlan, Unusable>, Fail> {
-    let mut writer = DiiWriter::new(alloc, 2, 2, block_size)?;
-    for (id, size, info) in modules {
-        if info.len() > 255 {
-            return Err("the info is too long".into());
-        }
-        writer.module(*id, *size, 0, info)?;
-    }
-    let section = writer.finish().ok().ok_or("memory")?;
+    let section = messages::dii(alloc, 2, block_size, modules)?;
     let dii = Dii::read(&section).ok_or("no DII")?;
     Ok(GroupPlan::of(&dii, bank_len))
 }
@@ -48,60 +42,53 @@ fn place(plan: &GroupPlan, version: u8, block: u16, bytes: &[u8]) -> Option<Plac
 #[test]
 fn each_reason_is_named(rt: HostRuntime) -> Result<(), Fail> {
     let none = b"".as_slice();
-    let at = rt.alloc();
-    same(
-        &rt,
-        &refusal(plan(at, 4066, 8192, &[(1, 8193, none)])?),
-        &Some(Unusable::TooLong(8193)),
-    );
-    same(
-        &rt,
-        &refusal(plan(at, 4066, 8192, &[(1, 8192, none)])?),
-        &None,
-    );
-    same(
-        &rt,
-        &refusal(plan(at, 4066, 9, &[(1, 1, none), (1, 1, none)])?),
-        &Some(Unusable::TwiceModule(1)),
-    );
-    same(
-        &rt,
-        &refusal(plan(at, 0, 9, &[(1, 1, none)])?),
-        &Some(Unusable::NoBlockSize),
-    );
-    same(
-        &rt,
-        &refusal(plan(at, 4067, 9, &[(1, 1, none)])?),
-        &Some(Unusable::NoBlockSize),
-    );
-    same(
-        &rt,
-        &refusal(plan(at, 1, 9, &[(7, 65537, none)])?),
-        &Some(Unusable::TooManyBlocks(7)),
-    );
-    same(
-        &rt,
-        &refusal(plan(at, 1, 9, &[(1, 0, none)])?),
-        &Some(Unusable::Empty),
-    );
-    // compressed_module with one byte comes before all else
-    same(
-        &rt,
-        &refusal(plan(
-            at,
+    let one: &[Module<'_>] = &[(1, 1, 0, none)];
+    // the length of a block and of the bank, the modules, why there is no plan
+    let rows: [(u16, u32, &[Module<'_>], Option<Unusable>); 8] = [
+        (
+            4066,
+            8192,
+            &[(1, 8193, 0, none)],
+            Some(Unusable::TooLong(8193)),
+        ),
+        (4066, 8192, &[(1, 8192, 0, none)], None),
+        (
+            4066,
+            9,
+            &[(1, 1, 0, none), (1, 1, 0, none)],
+            Some(Unusable::TwiceModule(1)),
+        ),
+        (0, 9, one, Some(Unusable::NoBlockSize)),
+        (4067, 9, one, Some(Unusable::NoBlockSize)),
+        (
+            1,
+            9,
+            &[(7, 65537, 0, none)],
+            Some(Unusable::TooManyBlocks(7)),
+        ),
+        (1, 9, &[(1, 0, 0, none)], Some(Unusable::Empty)),
+        // compressed_module with one byte comes before all else
+        (
             0,
             9,
-            &[(1, 1, none), (3, 1, b"\x09\x01\x00".as_slice())],
-        )?),
-        &Some(Unusable::Compressed(3)),
-    );
+            &[(1, 1, 0, none), (3, 1, 0, b"\x09\x01\x00")],
+            Some(Unusable::Compressed(3)),
+        ),
+    ];
+    for (block_size, bank_len, modules, why) in rows {
+        same(
+            &rt,
+            &refusal(plan(rt.alloc(), block_size, bank_len, modules)?),
+            &why,
+        );
+    }
     Ok(())
 }
 
 #[test]
 fn the_last_block_has_what_is_left(rt: HostRuntime) -> Result<(), Fail> {
     let none = b"".as_slice();
-    let Ok(two) = plan(rt.alloc(), 4066, 20000, &[(1, 8132, none)])? else {
+    let Ok(two) = plan(rt.alloc(), 4066, 20000, &[(1, 8132, 0, none)])? else {
         panic!(rt; "it can be used");
     };
     same(&rt, &(two.places, two.total), &(2, 8132));
@@ -110,8 +97,8 @@ fn the_last_block_has_what_is_left(rt: HostRuntime) -> Result<(), Fail> {
         4066,
         20000,
         &[
-            (9, 0, none),
-            (1, 8133, b"\x05\x04\x03\x76\xE6\xE7".as_slice()),
+            (9, 0, 0, none),
+            (1, 8133, 0, b"\x05\x04\x03\x76\xE6\xE7".as_slice()),
         ],
     )?
     else {
@@ -154,11 +141,7 @@ fn the_last_block_has_what_is_left(rt: HostRuntime) -> Result<(), Fail> {
 
 #[test]
 fn a_group_of_506_modules_has_a_place_for_each(rt: HostRuntime) -> Result<(), Fail> {
-    let mut writer = DiiWriter::new(rt.alloc(), 2, 2, 1)?;
-    for id in 0..506u16 {
-        writer.module(id, 1, 0, &[])?;
-    }
-    let section = writer.finish().ok().expect(&rt, "memory");
+    let section = messages::dii_of_many(rt.alloc(), 2, 1, 506, 0, &[])?;
     let dii = Dii::read(&section).expect(&rt, "no DII");
     let Ok(plan) = GroupPlan::of(&dii, 506) else {
         panic!(rt; "it can be used");

@@ -1,16 +1,13 @@
 //! A small carousel, over a flash in memory.
 
-ghost use Rattle.std.specs.Prelude.{length, ◌≤◌};
-
 use crate::check::same;
+use crate::messages::{ddb, dii, dsi, section};
 use box_file::BoxFile;
-use dsmcc_msg::{Ddb, DiiWriter, DsiWriter, write_ddb};
 use flash_bank::{boot, format};
 use flash_dev::MemFlash;
 use flash_stage::BankStage;
-use section_form::{LongForm, long_section};
 use si_desc::ServiceRef;
-use ssu_compat::{BoxId, Oui, Plain, Rule, SwId, write};
+use ssu_compat::{BoxId, Oui, Rule, SwId};
 use ssu_io::{MemSink, MemSource};
 use ssu_loader::{Chosen, Verdict, replay};
 use std::alloc::Global;
@@ -46,75 +43,6 @@ const COMPRESSED: &[u8] = &[9, 5, 8, 0, 0, 0, 9];
 /// The CRC of the text 123456789.
 const CRC_INFO: &[u8] = &[5, 4, 0x03, 0x76, 0xE6, 0xE7];
 
-fn section(alloc: Global, table: u8, extension: u16, body: &[u8]) -> Result<Vec<u8>, Fail>
-    requires { length body.now ≤ 4084 }
-{
-    let head = LongForm {
-        table,
-        extension,
-        version: 0,
-        number: 0,
-        last: 0,
-        body,
-    };
-    Ok(long_section(alloc, head, true)?)
-}
-
-/// A DSI with these groups, whose software is newer.
-fn dsi(alloc: Global, groups: &[u32]) -> Result<Vec<u8>, Fail> {
-    let oui = Oui::new(0x1234).ok_or("an OUI")?;
-    let entries = [
-        Plain {
-            kind: 1,
-            oui,
-            model: 7,
-            version: 2,
-        },
-        Plain {
-            kind: 2,
-            oui,
-            model: NEW.model,
-            version: NEW.version,
-        },
-    ];
-    let mut writer = DsiWriter::new(alloc, 0x8000_0000)?;
-    for group in groups {
-        writer.group(*group, 9, &write(alloc, &entries)?, &[])?;
-    }
-    Ok(writer.finish().ok().ok_or("memory")?)
-}
-
-/// The DII of a group, which has one module of 9 bytes with this version and these descriptors.
-fn dii(
-    alloc: Global,
-    group: u32,
-    block_size: u16,
-    version: u8,
-    info: &[u8],
-) -> Result<Vec<u8>, Fail> {
-    if info.len() > 255 {
-        return Err("the descriptors are too long".into());
-    }
-    let mut writer = DiiWriter::new(alloc, group, group, block_size)?;
-    writer.module(1, 9, version, info)?;
-    Ok(writer.finish().ok().ok_or("memory")?)
-}
-
-/// A block of the module of a group, which is the last.
-fn ddb(alloc: Global, group: u32, number: u16, bytes: &[u8]) -> Result<Vec<u8>, Fail> {
-    if bytes.len() > 4066 {
-        return Err("the block is too long".into());
-    }
-    let block = Ddb {
-        download: group,
-        module: 1,
-        version: 0,
-        block: number,
-        bytes,
-    };
-    Ok(write_ddb(alloc, block, number)?)
-}
-
 /// Adds the packets of a section, and answers the next counter.
 fn send(out: &mut Vec<u8>, section: &[u8], pid: u16, counter: u8) -> Result<u8, Fail> {
     let pid = Pid::new(pid).ok_or("a PID")?;
@@ -127,8 +55,8 @@ fn send(out: &mut Vec<u8>, section: &[u8], pid: u16, counter: u8) -> Result<u8, 
 /// What the carousel sends next.
 #[derive(Clone, Copy)]
 enum Next<'a> {
-    /// A DSI with these groups.
-    Groups(&'a [u32]),
+    /// A DSI with these groups: each has an id, the model of its hardware and the version of its software.
+    Groups(&'a [(u32, u16, u16)]),
     /// The DII of a group, whose module has this version and these descriptors.
     Module(u32, u8, &'a [u8]),
     /// This block of the group.
@@ -144,7 +72,12 @@ fn stream(alloc: Global, block_size: u16, sent: &[Next<'_>]) -> Result<Vec<u8>, 
     for next in sent {
         let section = match *next {
             Next::Groups(groups) => dsi(alloc, groups)?,
-            Next::Module(group, version, info) => dii(alloc, group, block_size, version, info)?,
+            Next::Module(group, version, info) => dii(
+                alloc,
+                group,
+                block_size,
+                &[(1, 9, version, info)],
+            )?,
             Next::Block(group, block, bytes) => ddb(alloc, group, block, bytes)?,
         };
         counter = send(&mut out, &section, 258, counter)?;
@@ -201,9 +134,9 @@ fn a_carousel_comes_to_its_verdict(rt: HostRuntime) -> Result<(), Fail> {
     let alloc = rt.alloc();
     let text: &[u8] = b"123456789";
     let other: &[u8] = b"987654321";
-    let both: &[u32] = &[GROUP, 4];
-    let own: &[u32] = &[GROUP];
-    let none: &[u32] = &[];
+    let both: &[(u32, u16, u16)] = &[(GROUP, 7, 8), (4, 7, 8)];
+    let own: &[(u32, u16, u16)] = &[(GROUP, 7, 8)];
+    let none: &[(u32, u16, u16)] = &[];
     // the length of a block, what is sent, what comes of it, and what boot takes
     let rows: [(u16, &[Next<'_>], Verdict, &[u8]); 5] = [
         (
@@ -271,7 +204,7 @@ fn a_carousel_comes_to_its_verdict(rt: HostRuntime) -> Result<(), Fail> {
 #[test]
 fn no_more_than_sixteen_choices_begin(rt: HostRuntime) -> Result<(), Fail> {
     let alloc = rt.alloc();
-    let own: &[u32] = &[GROUP];
+    let own: &[(u32, u16, u16)] = &[(GROUP, 7, 8)];
     let rows: [(u8, Verdict); 2] = [
         (16, Verdict::Incomplete(chosen(GROUP), 1)),
         (17, Verdict::Unsettled),

@@ -1,13 +1,10 @@
 //! A box on its way to a group, section by section.
 
-ghost use Rattle.std.specs.Prelude.{length, ◌≤◌};
-
 use crate::check::same;
+use crate::messages::{dii_of_many, dsi, section};
 use box_file::BoxFile;
-use dsmcc_msg::{DiiWriter, DsiWriter};
-use section_form::{LongForm, long_section};
 use si_desc::ServiceRef;
-use ssu_compat::{BoxId, Oui, Plain, Rule, SwId, write};
+use ssu_compat::{BoxId, Oui, Rule, SwId};
 use ssu_route::*;
 use std::alloc::Global;
 use std::test::Fail;
@@ -73,51 +70,9 @@ fn the_box(service: Option<ServiceRef>) -> BoxFile {
     }
 }
 
-fn section(alloc: Global, table: u8, extension: u16, body: &[u8]) -> Result<Vec<u8>, Fail>
-    requires { length body.now ≤ 4084 }
-{
-    let head = LongForm {
-        table,
-        extension,
-        version: 0,
-        number: 0,
-        last: 0,
-        body,
-    };
-    Ok(long_section(alloc, head, true)?)
-}
-
-/// A DSI with these groups, each for a hardware of model 7 or another and with a software of this version.
-fn dsi(alloc: Global, groups: &[(u32, u16, u16)]) -> Result<Vec<u8>, Fail> {
-    let mut writer = DsiWriter::new(alloc, 0x8000_0000)?;
-    for (id, model, version) in groups {
-        let hardware = Plain {
-            kind: 1,
-            oui: oui(),
-            model: *model,
-            version: 2,
-        };
-        let software = Plain {
-            kind: 2,
-            oui: oui(),
-            model: 1,
-            version: *version,
-        };
-        let compat = write(alloc, &[hardware, software])?;
-        writer.group(*id, 9, &compat, &[])?;
-    }
-    Ok(writer.finish().ok().ok_or("memory")?)
-}
-
 /// The DII of the group, with so many modules of this version and one byte, each with these descriptors.
-fn dii(alloc: Global, group: u32, modules: u16, version: u8, info: &[u8]) -> Result<Vec<u8>, Fail>
-    requires { length info.now ≤ 255 }
-{
-    let mut writer = DiiWriter::new(alloc, group, group, 4066)?;
-    for id in 0..modules {
-        writer.module(id, 1, version, info)?;
-    }
-    Ok(writer.finish().ok().ok_or("memory")?)
+fn dii(alloc: Global, group: u32, modules: u16, version: u8, info: &[u8]) -> Result<Vec<u8>, Fail> {
+    dii_of_many(alloc, group, 4066, modules, version, info)
 }
 
 /// A box that has come to the carousel on PID 258.

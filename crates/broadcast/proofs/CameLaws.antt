@@ -156,26 +156,26 @@ to_end b me rest Now air h =
 
 -- ---- the verdict
 
-pub came : (keeps : Bool) (b : Broadcast) (me : Receiver) (rest : List ℕ) (g : Geometry) (former : Boot) (x y : List ℕ) (verdict : Verdict) → (StagesNone g x → OpensEmpty me) → IsOnAir b → BootOf g x former
+pub came : (keeps : Bool) (b : Broadcast) (me : Receiver) (rest : List ℕ) (g : Geometry) (former : Boot) (x y : List ℕ) (verdict : Verdict) → (StagesNone g x → OpensEmpty me) → keeps ≡ true → IsOnAir b → BootOf g x former
     → EndsWith true keeps me (Some (bytes_of_air b)) (Some rest) g x y verdict → Came b me g former.head x y verdict
-came keeps b me rest g former x y (Installed chosen) opens air boots ends =
+came keeps b me rest g former x y (Installed chosen) opens keeping air boots ends =
     let i = installed b me rest g former x y chosen opens air boots ends in
     let s = settled b me i.front.before i.front.packet i.front.behind (Whole chosen i.image) air i.front.parts i.front.within i.reached in
-    record { is = (i.image, s.all); out = inr s.out; left = i }
-came keeps b me rest g former x y (Nothing level) opens air boots ends =
+    record { is = (i.image, s.all); out = inr s.out; left = i; staged = tt }
+came keeps b me rest g former x y (Nothing level) opens keeping air boots ends =
     let e = to_end b me rest _ air ends.0 in
-    record { is = e.now.0; out = inl e.few; left = ends.1 }
-came keeps b me rest g former x y (Incomplete chosen count) opens air boots ends =
+    record { is = e.now.0; out = inl e.few; left = ends.1; staged = tt }
+came keeps b me rest g former x y (Incomplete chosen count) opens keeping air boots ends =
     let e = to_end b me rest _ air ends.0 in
-    record { is = e.now.0; out = inl e.few; left = ends.1 }
-came keeps b me rest g former x y (BadModule id want found) opens air boots ends =
+    record { is = e.now.0; out = inl e.few; left = ends.1; staged = e.now.2 keeping }
+came keeps b me rest g former x y (BadModule id want found) opens keeping air boots ends =
     let u = up_to b me rest (λ heard. Reaches me heard (Wrong id want found)) (IsOpen me) air ends.0 in
     let s = settled_at b me (IsOpen me) (Wrong id want found) air u in
-    record { is = s.all; out = inr s.out; left = ends.1.0 }
-came keeps b me rest g former x y Unsettled opens air boots ends =
+    record { is = s.all; out = inr s.out; left = ends.1.0; staged = ends.1.2 keeping }
+came keeps b me rest g former x y Unsettled opens keeping air boots ends =
     let u = up_to b me rest _ (IsOpen me) air ends.0 in
     let s = settled b me u.front.before u.front.packet u.front.behind TooMany air u.front.parts u.front.within u.now.0 in
-    record { is = s.all; out = inr s.out; left = ends.1 }
+    record { is = s.all; out = inr s.out; left = ends.1; staged = tt }
 
 -- what was left, whatever the verdict
 pub either_left : (b : Broadcast) (me : Receiver) (g : Geometry) (former : Record) (x y : List ℕ) (verdict : Verdict) → IsLeft b me g former x y verdict

@@ -219,7 +219,7 @@ module _ {F : Type 0} (f : FlashGhosts F) (b : Broadcast) (box_file : BoxFile) w
         let me = box_at old former.head in
         let ends = subst (λ (h : Record). EndsWith true true (box_at old h) (Some (bytes_of_air b)) (Some rest) (blocks_of f old) (f.contents old) (f.contents mid) verdict)
         (sym (comes.boots tells former boots)) (comes.fact.1 tells) in
-        came true b me rest (blocks_of f old) former (f.contents old) (f.contents mid) verdict (opens_empty old former r.ends.ready.limits boots) air boots ends
+        came true b me rest (blocks_of f old) former (f.contents old) (f.contents mid) verdict (opens_empty old former r.ends.ready.limits boots) refl air boots ends
 
     came_then : f.tells → (former : Boot) → BootOf (blocks_of f old) (f.contents old) former
         → Came b (box_at old former.head) (blocks_of f old) former.head (f.contents old) (f.contents new) verdict

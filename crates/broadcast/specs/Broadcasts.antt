@@ -21,13 +21,14 @@ use Rattle.ssu_answer.specs.declared.build_fault.BuildFault.TheVariants as build
 use Rattle.ssu_answer.specs.declared.chosen.Chosen.{Chosen}
 use Rattle.ssu_io.specs.Faults.{Rose}
 use Rattle.ssu_loader.specs.Decisions.{Decision, Reaches}
+use Rattle.ssu_loader.specs.Remaining.{StagesStanding}
 use Rattle.ssu_loader.specs.Replaying.{AsBox, AtAnyMoment, IsKnown, IsReady, receiver_at}
 use Rattle.ssu_loader.specs.Replays.{record_after}
 use Rattle.ssu_loader.specs.Verdicts.{IsLastSeen, IsSeen, IsUndecided, IsVerdict}
 use Rattle.ssu_loader.specs.declared.fault.LoadFault.{LoadFault}
 use Rattle.ssu_loader.specs.declared.fault.LoadFault.TheVariants as load_fault
 use Rattle.ssu_answer.specs.declared.verdict.Verdict.{Verdict}
-use Rattle.ssu_answer.specs.declared.verdict.Verdict.TheVariants.{Incomplete, Installed, Nothing}
+use Rattle.ssu_answer.specs.declared.verdict.Verdict.TheVariants.{BadModule, Incomplete, Installed, Nothing}
 use Rattle.ts_input.specs.Packets.{most_packets}
 
 -- ---- what was heard
@@ -56,11 +57,19 @@ abbrev pub IsLeft : Broadcast → Receiver → Geometry → Record → List ℕ 
 IsLeft b me g former x y (Installed chosen) = IsInstalledFrom b me g former x y chosen
 IsLeft b me g former x y other = KeepsBoot g x y
 
+-- What y has staged with this verdict: at Incomplete the group of the choice that stands, if it is one that is kept, with just the places that
+-- are kept or filled and with their bytes; of a group with a wrong module nothing.
+abbrev pub IsLeftStaged : Broadcast → Receiver → Geometry → List ℕ → Verdict → Type 0
+IsLeftStaged b me g y (Incomplete chosen count) = StagesStanding g y me (heard_over me (aired_packets b))
+IsLeftStaged b me g y (BadModule id want found) = StagesNone g y
+IsLeftStaged b me g y other = Unit {0}
+
 -- A replay of the packets came to this verdict, and x became y.
 pub record Came (b : Broadcast) (me : Receiver) (g : Geometry) (former : Record) (x y : List ℕ) (verdict : Verdict) : Type 0 where
   pub is : IsVerdict me (heard_over me (aired_packets b)) verdict
   pub out : IsHeardOut b me
   pub left : IsLeft b me g former x y verdict
+  pub staged : IsLeftStaged b me g y verdict
 
 -- All packets were heard, and this is the verdict of them.
 pub record IsSeenToEnd (known : Type 0) (b : Broadcast) (me : Receiver) (verdict : Verdict) : Type 0 where

@@ -1,10 +1,14 @@
-//! Tests of the commands but `replay`.
+//! Tests of the commands but `replay`, and of the audit behind one of them.
 #![tactic(auto)]
 
 #[cfg(test)]
 mod check;
 #[cfg(test)]
+mod messages;
+#[cfg(test)]
 mod tool_air_tests;
+#[cfg(test)]
+mod tool_audit_tests;
 #[cfg(test)]
 mod tool_build_tests;
 #[cfg(test)]

@@ -38,6 +38,23 @@ fn run_air(alloc: Global, script: &str, letters: &str, fails: Vec<u32>) -> Resul
     Ok(Outcome { status, made, out })
 }
 
+/// Whether the script makes packets of these letters of those, and this line is printed.
+fn becomes(
+    alloc: Global,
+    script: &str,
+    before: &str,
+    after: &str,
+    line: &str,
+) -> Result<bool, Fail> {
+    let Outcome { status, made, out } = run_air(alloc, script, before, Vec::new(alloc))?;
+    let wanted = packets(alloc, after)?;
+    Ok(
+        status == Status::Done
+            && made.bytes() == wanted.as_slice()
+            && out.bytes() == line.as_bytes(),
+    )
+}
+
 #[test]
 fn packets_are_lost_repeated_and_exchanged(rt: HostRuntime) -> Result<(), Fail> {
     let alloc = rt.alloc();
@@ -62,11 +79,11 @@ fn packets_are_lost_repeated_and_exchanged(rt: HostRuntime) -> Result<(), Fail> 
         ("unknown = 1\ndrop = [9]", "ab", "ab", "packets 2\n"),
     ];
     for (script, before, after, line) in rows {
-        let outcome = run_air(alloc, script, before, Vec::new(alloc))?;
-        same(&rt, &outcome.status, &Status::Done);
-        let wanted = packets(alloc, after)?;
-        same(&rt, &outcome.made.bytes(), &wanted.as_slice());
-        same(&rt, &outcome.out.bytes(), &line.as_bytes());
+        same(
+            &rt,
+            &(script, becomes(alloc, script, before, after, line)?),
+            &(script, true),
+        );
     }
     Ok(())
 }
@@ -83,9 +100,14 @@ fn a_changed_byte_changes_its_place_with_its_packet(rt: HostRuntime) -> Result<(
     Ok(())
 }
 
-fn field_in(status: &Status) -> Result<FieldName, Fail> {
+/// The field at which the script is refused, where nothing is put and printed.
+fn bad_field(alloc: Global, script: &str) -> Result<FieldName, Fail> {
+    let Outcome { status, made, out } = run_air(alloc, script, "ab", Vec::new(alloc))?;
+    if !made.bytes().is_empty() || !out.bytes().is_empty() {
+        return Err(Fail::from("something is put"));
+    }
     match status {
-        Status::PlanRefused(field) => Ok(*field),
+        Status::PlanRefused(field) => Ok(field),
         _ => Err(Fail::from("no field")),
     }
 }
@@ -112,10 +134,7 @@ fn the_first_bad_field_is_named(rt: HostRuntime) -> Result<(), Fail> {
         ("drop_every = 2\ndrop_until = 16777217", "script.drop_until"),
     ];
     for (script, field) in rows {
-        let outcome = run_air(alloc, script, "ab", Vec::new(alloc))?;
-        let named = field_in(&outcome.status)?;
-        same(&rt, &named.as_str(), &field);
-        assert!(rt; outcome.made.bytes().is_empty() && outcome.out.bytes().is_empty());
+        same(&rt, &bad_field(alloc, script)?.as_str(), &field);
     }
     Ok(())
 }

@@ -38,25 +38,23 @@ fn run_build(alloc: Global, mut shelf: MemShelf) -> Outcome {
     Outcome { status, made, out }
 }
 
+/// The packets of a plan that is built, where this line is printed.
+fn built(alloc: Global, shelf: MemShelf, line: &str) -> Result<Vec<u8>, Fail> {
+    let Outcome { status, made, out } = run_build(alloc, shelf);
+    if status != Status::Done || out.bytes() != line.as_bytes() {
+        return Err(Fail::from("it is not built, or another line is printed"));
+    }
+    Ok(made.into_bytes())
+}
+
 #[test]
 fn one_small_file_makes_seven_sections(rt: HostRuntime) -> Result<(), Fail> {
     let alloc = rt.alloc();
-    let seven = run_build(alloc, shelf(alloc, "7", "modules = [\"a.bin\"]")?);
-    same(&rt, &seven.status, &Status::Done);
-    same(
-        &rt,
-        &seven.out.bytes(),
-        &b"sections 7 packets 7\n".as_slice(),
-    );
-    same(&rt, &seven.made.bytes().len(), &(7 * 188));
+    let one = "modules = [\"a.bin\"]";
+    let seven = built(alloc, shelf(alloc, "7", one)?, "sections 7 packets 7\n")?;
+    same(&rt, &seven.len(), &(7 * 188));
     // The eighth turn sends the data block again, on PID 258.
-    let eight = run_build(alloc, shelf(alloc, "8", "modules = [\"a.bin\"]")?);
-    same(
-        &rt,
-        &eight.out.bytes(),
-        &b"sections 7 packets 8\n".as_slice(),
-    );
-    let packets = eight.made.bytes();
+    let packets = built(alloc, shelf(alloc, "8", one)?, "sections 7 packets 8\n")?;
     assert!(rt; packets.len() == 8 * 188);
     // The packets differ only in their counters, 2 and 3, since DSI and DII go on the same PID before them.
     let header = [0x47, 0x41, 0x02];
@@ -77,15 +75,11 @@ fn one_small_file_makes_seven_sections(rt: HostRuntime) -> Result<(), Fail> {
 #[test]
 fn a_file_may_be_mentioned_twice(rt: HostRuntime) -> Result<(), Fail> {
     let alloc = rt.alloc();
-    let twice = run_build(
-        alloc,
-        shelf(alloc, "8", "modules = [\"a.bin\", \"a.bin\"]")?,
-    );
-    same(&rt, &twice.status, &Status::Done);
+    let twice = shelf(alloc, "8", "modules = [\"a.bin\", \"a.bin\"]")?;
     same(
         &rt,
-        &twice.out.bytes(),
-        &b"sections 8 packets 8\n".as_slice(),
+        &built(alloc, twice, "sections 8 packets 8\n")?.len(),
+        &(8 * 188),
     );
     Ok(())
 }
@@ -106,19 +100,33 @@ fn field_in(status: &Status) -> Result<FieldName, Fail> {
     }
 }
 
+/// The file that is missing or too long. Nothing is put and printed then.
+fn bad_file(alloc: Global, shelf: MemShelf) -> Result<FileName, Fail> {
+    let Outcome { status, made, out } = run_build(alloc, shelf);
+    if !made.bytes().is_empty() || !out.bytes().is_empty() {
+        return Err(Fail::from("something is put"));
+    }
+    name_in(&status)
+}
+
+/// The field at which the plan is refused. Nothing is put and printed then.
+fn bad_field(alloc: Global, shelf: MemShelf) -> Result<FieldName, Fail> {
+    let Outcome { status, made, out } = run_build(alloc, shelf);
+    if !made.bytes().is_empty() || !out.bytes().is_empty() {
+        return Err(Fail::from("something is put"));
+    }
+    field_in(&status)
+}
+
 #[test]
 fn what_is_missing_or_bad_is_named(rt: HostRuntime) -> Result<(), Fail> {
     let alloc = rt.alloc();
-    let empty = run_build(alloc, MemShelf::new(alloc, Vec::new(alloc)));
-    same(&rt, &name_in(&empty.status)?.as_str(), &"plan.toml");
-    let missing = run_build(
-        alloc,
-        shelf(alloc, "7", "modules = [\"a.bin\", \"b.bin\"]")?,
-    );
-    same(&rt, &name_in(&missing.status)?.as_str(), &"b.bin");
-    assert!(rt; missing.made.bytes().is_empty() && missing.out.bytes().is_empty());
-    let still = run_build(alloc, shelf(alloc, "0", "modules = [\"a.bin\"]")?);
-    same(&rt, &field_in(&still.status)?.as_str(), &"turns");
+    let empty = MemShelf::new(alloc, Vec::new(alloc));
+    same(&rt, &bad_file(alloc, empty)?.as_str(), &"plan.toml");
+    let missing = shelf(alloc, "7", "modules = [\"a.bin\", \"b.bin\"]")?;
+    same(&rt, &bad_file(alloc, missing)?.as_str(), &"b.bin");
+    let still = shelf(alloc, "0", "modules = [\"a.bin\"]")?;
+    same(&rt, &bad_field(alloc, still)?.as_str(), &"turns");
     Ok(())
 }
 
@@ -128,11 +136,7 @@ fn a_file_of_65537_blocks_is_too_long(rt: HostRuntime) -> Result<(), Fail> {
     let group = "block_size = 1\nmodules = [\"a.bin\", \"b.bin\"]";
     let mut shelf = shelf(alloc, "7", group)?;
     shelf.add("b.bin", vec![in alloc; 1; 65_537]?)?;
-    same(
-        &rt,
-        &name_in(&run_build(alloc, shelf).status)?.as_str(),
-        &"b.bin",
-    );
+    same(&rt, &bad_file(alloc, shelf)?.as_str(), &"b.bin");
     Ok(())
 }
 

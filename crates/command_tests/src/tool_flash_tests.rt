@@ -87,6 +87,21 @@ fn a_formatted_flash_gives_its_file_back(rt: HostRuntime) -> Result<(), Fail> {
     Ok(())
 }
 
+/// The answer of `format` with such a shelf over a blank flash of so many blocks, and whether a line is printed.
+fn answer(
+    alloc: Global,
+    text: Option<&str>,
+    len: Option<usize>,
+    fails: &[u32],
+    blocks: u32,
+) -> Result<(Status, bool), Fail> {
+    let mut shelf = shelf_of(alloc, text, len, fails)?;
+    let mut flash = flash_with(alloc, &blank_flash(alloc, blocks)?)?;
+    let mut out = sink(alloc, &[])?;
+    let status = format(alloc, &name("a.bin")?, &mut shelf, &mut flash, &mut out);
+    Ok((status, !out.bytes().is_empty()))
+}
+
 #[test]
 fn format_is_refused_in_order(rt: HostRuntime) -> Result<(), Fail> {
     let alloc = rt.alloc();
@@ -105,77 +120,70 @@ fn format_is_refused_in_order(rt: HostRuntime) -> Result<(), Fail> {
         (Some(BOX), Some(4096), &[], 4, Status::Done),
     ];
     for (text, len, fails, blocks, status) in rows {
-        let mut shelf = shelf_of(alloc, text, len, fails)?;
-        let mut flash = flash_with(alloc, &blank_flash(alloc, blocks)?)?;
-        let mut out = sink(alloc, &[])?;
-        let answer = format(alloc, &name("a.bin")?, &mut shelf, &mut flash, &mut out);
-        same(&rt, &answer, &status);
-        same(&rt, &out.bytes().is_empty(), &(status != Status::Done));
+        let done = status == Status::Done;
+        same(
+            &rt,
+            &answer(alloc, text, len, fails, blocks)?,
+            &(status, done),
+        );
     }
     Ok(())
+}
+
+/// Whether `format` with a file of five bytes answers so, whose line is put but at these calls.
+fn formats(
+    alloc: Global,
+    flash: &mut MemFlash,
+    fails: &[u32],
+    status: Status,
+) -> Result<bool, Fail> {
+    let mut shelf = shelf_of(alloc, Some(BOX), Some(5), &[])?;
+    let mut out = sink(alloc, fails)?;
+    let answer = format(alloc, &name("a.bin")?, &mut shelf, flash, &mut out);
+    Ok(answer == status)
+}
+
+/// Whether `boot` answers so, with this image, which is put but at these calls.
+fn boots(
+    alloc: Global,
+    flash: &mut MemFlash,
+    fails: &[u32],
+    status: Status,
+    image: &[u8],
+) -> Result<bool, Fail> {
+    let mut made = sink(alloc, fails)?;
+    let mut out = sink(alloc, &[])?;
+    Ok(boot(flash, &mut made, &mut out) == status && made.bytes() == image)
 }
 
 #[test]
 fn faults_are_told_apart(rt: HostRuntime) -> Result<(), Fail> {
     let alloc = rt.alloc();
-    let mut shelf = shelf_of(alloc, Some(BOX), Some(5), &[])?;
-    let mut flash = flash_with(alloc, &blank_flash(alloc, 4)?)?;
     // what is blank is not sound, and what has no blocks is out of the limits
-    let mut made = sink(alloc, &[])?;
-    let mut out = sink(alloc, &[2])?;
-    same(
-        &rt,
-        &boot(&mut flash, &mut made, &mut out),
-        &Status::Foreign,
-    );
     let mut none = flash_with(alloc, &[])?;
-    same(
-        &rt,
-        &boot(&mut none, &mut made, &mut out),
-        &Status::Geometry,
-    );
+    assert!(rt; boots(alloc, &mut none, &[], Status::Geometry, &[])?);
+    let mut flash = flash_with(alloc, &blank_flash(alloc, 4)?)?;
+    assert!(rt; boots(alloc, &mut flash, &[], Status::Foreign, &[])?);
     // the third erase fails
     let planned: Result<(), NoMemory> = flash.fail_at(3, Tear::Front(0));
     assert!(rt; planned.is_ok());
-    let file = name("a.bin")?;
-    same(
-        &rt,
-        &format(alloc, &file, &mut shelf, &mut flash, &mut out),
-        &Status::FlashFault,
-    );
-    same(
-        &rt,
-        &boot(&mut flash, &mut made, &mut out),
-        &Status::Foreign,
-    );
-    same(
-        &rt,
-        &format(alloc, &file, &mut shelf, &mut flash, &mut out),
-        &Status::Done,
-    );
+    assert!(rt; formats(alloc, &mut flash, &[], Status::FlashFault)?);
+    assert!(rt; boots(alloc, &mut flash, &[], Status::Foreign, &[])?);
+    assert!(rt; formats(alloc, &mut flash, &[], Status::Done)?);
     // the line is not put, and the flash is formatted all the same
-    same(
-        &rt,
-        &format(alloc, &file, &mut shelf, &mut flash, &mut out),
-        &Status::WriteFault,
-    );
-    assert!(rt; made.bytes().is_empty());
-    same(&rt, &boot(&mut flash, &mut made, &mut out), &Status::Done);
-    same(&rt, &made.bytes(), &[7; 5].as_slice());
+    assert!(rt; formats(alloc, &mut flash, &[1], Status::WriteFault)?);
+    assert!(rt; boots(alloc, &mut flash, &[], Status::Done, &[7; 5])?);
     // the image is not made
-    let mut failing = sink(alloc, &[1])?;
-    same(
-        &rt,
-        &boot(&mut flash, &mut failing, &mut out),
-        &Status::WriteFault,
-    );
-    same(&rt, &blank(4, &mut failing, &mut out), &Status::Done);
-    let mut second_fails = sink(alloc, &[2])?;
-    same(
-        &rt,
-        &blank(4, &mut second_fails, &mut out),
-        &Status::WriteFault,
-    );
-    same(&rt, &second_fails.bytes().len(), &4096);
+    assert!(rt; boots(alloc, &mut flash, &[1], Status::WriteFault, &[])?);
+    Ok(())
+}
+
+#[test]
+fn a_blank_whose_second_block_is_not_put_is_a_write_fault(rt: HostRuntime) -> Result<(), Fail> {
+    let alloc = rt.alloc();
+    let mut made = sink(alloc, &[2])?;
+    let mut out = sink(alloc, &[])?;
+    same(&rt, &blank(4, &mut made, &mut out), &Status::WriteFault);
+    same(&rt, &made.bytes().len(), &4096);
     Ok(())
 }

@@ -1,7 +1,8 @@
 //! Carousels that the tests make, and what comes of them.
 
 use crate::check::same;
-use dsmcc_msg::{Ddb, DiiWriter, DsiWriter, write_ddb};
+use crate::messages::{GROUP, ddb, dii, send};
+use dsmcc_msg::DsiWriter;
 use ssu_answer::{Chosen, Level};
 use ssu_compat::{Oui, Plain, SwId, write};
 use ssu_io::{MemSink, MemSource, Source};
@@ -10,11 +11,8 @@ use std::alloc::Global;
 use std::test::Fail;
 use tool_load::{first_with_later_steps, load, verdict_stays};
 use ts_packet::Pid;
-use ts_section::cut;
 
-/// The group of the example, which has one module, with the text 123456789.
-const GROUP: u32 = 0x8000_0002;
-
+/// The bytes of the module.
 const TEXT: &[u8] = b"123456789";
 
 /// The descriptor with the CRC of the text, and one with zeros.
@@ -50,33 +48,8 @@ fn dsi(alloc: Global, groups: &[u32]) -> Result<Vec<u8>, Fail> {
     Ok(writer.finish().ok().ok_or("memory")?)
 }
 
-/// A DII of the group, whose module has this info.
-fn dii(alloc: Global, group: u32, info: &[u8]) -> Result<Vec<u8>, Fail> {
-    let mut writer = DiiWriter::new(alloc, group, group, 4066)?;
-    if info.len() > 255 {
-        return Err("the info is too long".into());
-    }
-    writer.module(1, 9, 0, info)?;
-    Ok(writer.finish().ok().ok_or("memory")?)
-}
-
-/// The block of the module.
-fn ddb(alloc: Global, version: u8, bytes: &[u8]) -> Result<Vec<u8>, Fail> {
-    if bytes.len() > 4066 {
-        return Err("the block is too long".into());
-    }
-    let block = Ddb {
-        download: GROUP,
-        module: 1,
-        version,
-        block: 0,
-        bytes,
-    };
-    Ok(write_ddb(alloc, block, 0)?)
-}
-
 /// A section of the example's carousel, or one that differs from it.
-#[derive(Clone, Copy, Debug, PartialEq, Eq)]
+#[derive(Clone, Copy)]
 enum Sent {
     /// A DSI without groups.
     NoGroup,
@@ -109,11 +82,11 @@ fn section_of(alloc: Global, sent: Sent) -> Result<Vec<u8>, Fail> {
         Sent::NoGroup => dsi(alloc, &[]),
         Sent::Groups => dsi(alloc, &[GROUP, 7]),
         Sent::OtherGroup => dsi(alloc, &[7]),
-        Sent::Usable => dii(alloc, GROUP, CRC_INFO),
-        Sent::Plain => dii(alloc, GROUP, &[]),
-        Sent::Zeros => dii(alloc, GROUP, ZERO_INFO),
-        Sent::Compressed => dii(alloc, GROUP, COMPRESSED_INFO),
-        Sent::OtherDii => dii(alloc, 7, CRC_INFO),
+        Sent::Usable => dii(alloc, GROUP, 4066, CRC_INFO),
+        Sent::Plain => dii(alloc, GROUP, 4066, &[]),
+        Sent::Zeros => dii(alloc, GROUP, 4066, ZERO_INFO),
+        Sent::Compressed => dii(alloc, GROUP, 4066, COMPRESSED_INFO),
+        Sent::OtherDii => dii(alloc, 7, 4066, CRC_INFO),
         Sent::Block => ddb(alloc, 0, TEXT),
         Sent::SecondBlock => ddb(alloc, 0, b"987654321"),
         Sent::NewerBlock => ddb(alloc, 1, TEXT),
@@ -123,15 +96,11 @@ fn section_of(alloc: Global, sent: Sent) -> Result<Vec<u8>, Fail> {
 
 /// The packets of these sections on PID 258.
 fn packets(alloc: Global, sections: &[Sent]) -> Result<Vec<u8>, Fail> {
-    let pid = Pid::new(258).ok_or("a PID")?;
     let mut counter = 0u8;
     let mut bytes = Vec::new(alloc);
     for sent in sections {
         let section = section_of(alloc, *sent)?;
-        if section.len() < 3 || section.len() > 4096 || section[0] == 0xFF {
-            return Err("no section".into());
-        }
-        counter = cut(&section, pid, counter % 16, &mut bytes)?;
+        counter = send(&mut bytes, &section, 258, counter)?;
     }
     Ok(bytes)
 }

@@ -38,38 +38,40 @@ fn flash_with(alloc: Global, held: &[u8]) -> Result<MemFlash, Fail> {
     Ok(MemFlash::holding(alloc, held, 4096, 1024)?)
 }
 
-/// The answer of `migrate`, and its line.
-fn migrated(alloc: Global, flash: &mut MemFlash) -> Result<(Status, Vec<u8>), Fail> {
+/// Whether `migrate` answers so, with this line.
+fn migrates(
+    alloc: Global,
+    flash: &mut MemFlash,
+    status: &Status,
+    line: &str,
+) -> Result<bool, Fail> {
     let mut out = sink(alloc, &[])?;
-    let status = migrate(flash, &mut out);
-    Ok((status, out.into_bytes()))
+    let answer = migrate(flash, &mut out);
+    Ok(answer == *status && out.bytes() == line.as_bytes())
 }
 
-/// The image that boot takes of these contents, and its line.
-fn booted(alloc: Global, held: &[u8]) -> Result<(Vec<u8>, Vec<u8>), Fail> {
+/// Whether boot takes the image of these contents, with this line.
+fn boots(alloc: Global, held: &[u8], line: &str) -> Result<bool, Fail> {
     let mut flash = flash_with(alloc, held)?;
     let mut made = sink(alloc, &[])?;
     let mut out = sink(alloc, &[])?;
-    if boot(&mut flash, &mut made, &mut out) != Status::Done {
-        return Err(Fail::from("boot"));
-    }
-    Ok((made.into_bytes(), out.into_bytes()))
+    let answer = boot(&mut flash, &mut made, &mut out);
+    Ok(answer == Status::Done && made.bytes() == IMAGE.as_slice() && out.bytes() == line.as_bytes())
 }
+
+const DONE: &str = "migrated bytes 16 number 2\n";
+
+const ALREADY: &str = "already layout 2 number 2\n";
 
 #[test]
 fn a_flash_of_520_blocks_gets_layout_2(rt: HostRuntime) -> Result<(), Fail> {
     let alloc = rt.alloc();
     let mut flash = flash_with(alloc, &layout_one(alloc, 520, &IMAGE)?)?;
-    let (status, line) = migrated(alloc, &mut flash)?;
-    assert!(rt; status == Status::Done);
-    assert!(rt; line.as_slice() == b"migrated bytes 16 number 2\n".as_slice());
-    let (image, line) = booted(alloc, flash.contents())?;
-    assert!(rt; image.as_slice() == IMAGE.as_slice());
-    assert!(rt; line.as_slice() == b"boot bank 0 number 2 software 1.1 bytes 16\n".as_slice());
+    assert!(rt; migrates(alloc, &mut flash, &Status::Done, DONE)?);
+    let line = "boot bank 0 number 2 software 1.1 bytes 16\n";
+    assert!(rt; boots(alloc, flash.contents(), line)?);
     let before = flash.contents().to_vec(alloc)?;
-    let (status, line) = migrated(alloc, &mut flash)?;
-    assert!(rt; status == Status::Done);
-    assert!(rt; line.as_slice() == b"already layout 2 number 2\n".as_slice());
+    assert!(rt; migrates(alloc, &mut flash, &Status::Done, ALREADY)?);
     assert!(rt; flash.contents() == before.as_slice());
     Ok(())
 }
@@ -80,6 +82,7 @@ fn a_flash_of_520_blocks_gets_layout_2(rt: HostRuntime) -> Result<(), Fail> {
 fn a_stop_leaves_the_image(rt: HostRuntime) -> Result<(), Fail> {
     let alloc = rt.alloc();
     let held = layout_one(alloc, 520, &IMAGE)?;
+    let line = "boot bank 0 number 1 software 1.1 bytes 16\n";
     let rows = [
         (1, Tear::Drift(90)),
         (2, Tear::Front(100)),
@@ -91,52 +94,49 @@ fn a_stop_leaves_the_image(rt: HostRuntime) -> Result<(), Fail> {
     for (call, tear) in rows {
         let mut flash = flash_with(alloc, &held)?;
         flash.stop_at(call, tear);
-        let (status, line) = migrated(alloc, &mut flash)?;
-        assert!(rt; status == Status::FlashFault);
-        assert!(rt; line.is_empty());
-        let (image, line) = booted(alloc, flash.contents())?;
-        assert!(rt; image.as_slice() == IMAGE.as_slice());
-        assert!(rt; line.as_slice() == b"boot bank 0 number 1 software 1.1 bytes 16\n".as_slice());
+        assert!(rt; migrates(alloc, &mut flash, &Status::FlashFault, "")?);
+        assert!(rt; boots(alloc, flash.contents(), line)?);
         let mut again = flash_with(alloc, flash.contents())?;
-        let (status, line) = migrated(alloc, &mut again)?;
-        assert!(rt; status == Status::Done);
-        assert!(rt; line.as_slice() == b"migrated bytes 16 number 2\n".as_slice());
+        assert!(rt; migrates(alloc, &mut again, &Status::Done, DONE)?);
     }
     Ok(())
+}
+
+/// Whether `migrate` of these contents answers so, with this code, and changes nothing. Its first read fails where that is said.
+fn refuses(
+    alloc: Global,
+    held: &[u8],
+    fails: bool,
+    status: Status,
+    code: u8,
+) -> Result<bool, Fail> {
+    let mut flash = flash_with(alloc, held)?;
+    if fails {
+        flash.fail_read(1)?;
+    }
+    let is_told = migrates(alloc, &mut flash, &status, "")?;
+    Ok(is_told && status.code() == code && flash.contents() == held)
 }
 
 #[test]
 fn a_refusal_changes_nothing(rt: HostRuntime) -> Result<(), Fail> {
     let alloc = rt.alloc();
-    let large = vec![in alloc; 7u8; 974_849]?;
-    let sound = layout_one(alloc, 520, &IMAGE)?;
-    let mut worn = sound.clone()?;
-    for (k, byte) in worn.iter_mut().enumerate() {
+    assert!(rt; refuses(alloc, &[], false, Status::Geometry, 17)?);
+    let blank = vec![in alloc; 255u8; 24_576]?;
+    assert!(rt; refuses(alloc, &blank, false, Status::Foreign, 5)?);
+    let small = layout_one(alloc, 22, &IMAGE)?;
+    assert!(rt; refuses(alloc, &small, false, Status::NoFit, 16)?);
+    let long = layout_one(alloc, 520, &vec![in alloc; 7u8; 974_849]?)?;
+    assert!(rt; refuses(alloc, &long, false, Status::NoFit, 16)?);
+    let mut held = layout_one(alloc, 520, &IMAGE)?;
+    assert!(rt; refuses(alloc, &held, true, Status::FlashFault, 12)?);
+    for (k, byte) in held.iter_mut().enumerate() {
         // the four pairs of the number
         if (8..16).contains(&k) {
             *byte = if k % 2 == 0 { 255 } else { 0 };
         }
     }
-    // the contents, whether the first read fails, the answer and its code
-    let rows = [
-        (Vec::new(alloc), false, Status::Geometry, 17),
-        (sound, true, Status::FlashFault, 12),
-        (vec![in alloc; 255u8; 24_576]?, false, Status::Foreign, 5),
-        (worn, false, Status::Worn, 13),
-        (layout_one(alloc, 22, &IMAGE)?, false, Status::NoFit, 16),
-        (layout_one(alloc, 520, &large)?, false, Status::NoFit, 16),
-    ];
-    for (held, fails, status, code) in rows.iter() {
-        let mut flash = flash_with(alloc, held)?;
-        if *fails {
-            flash.fail_read(1)?;
-        }
-        let (answer, line) = migrated(alloc, &mut flash)?;
-        assert!(rt; answer == *status);
-        assert!(rt; answer.code() == *code);
-        assert!(rt; line.is_empty());
-        assert!(rt; flash.contents() == held.as_slice());
-    }
+    assert!(rt; refuses(alloc, &held, false, Status::Worn, 13)?);
     Ok(())
 }
 
@@ -147,8 +147,6 @@ fn a_line_that_is_not_put_leaves_layout_2(rt: HostRuntime) -> Result<(), Fail> {
     let mut failing = sink(alloc, &[1])?;
     assert!(rt; migrate(&mut flash, &mut failing) == Status::WriteFault);
     assert!(rt; failing.bytes().is_empty());
-    let (status, line) = migrated(alloc, &mut flash)?;
-    assert!(rt; status == Status::Done);
-    assert!(rt; line.as_slice() == b"already layout 2 number 2\n".as_slice());
+    assert!(rt; migrates(alloc, &mut flash, &Status::Done, ALREADY)?);
     Ok(())
 }

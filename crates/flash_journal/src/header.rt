@@ -125,7 +125,7 @@ fn message_stands<F: Flash>(
     Ok(true)
 }
 
-/// Whether the header of the spare journal stands, with the number after the current one and over this message of 1 to 4,084 bytes.
+/// Whether the header of the spare journal stands, with the number after the current one and over this message of at most 4,084 bytes.
 /// `FlashFault` comes only where the flash failed and its count of faults rose; the bank is spent then.
 pub(crate) fn header_stands<F: Flash>(
     bank: &mut Bank,

@@ -24,8 +24,8 @@ const MOST_PLACES: u32 = 33_161_216;
 
 /// The group in the spare bank, with a bit for each place in memory. In layout 2 a group that has no more places than the journal has
 /// marks is kept: its message stands in the header of the journal, each place that is stored is marked, and one whose range was
-/// spoilt by a power loss goes to a slot. So where the same message is begun again after a power loss the places are there still.
-/// Any other group begins anew each time.
+/// spoilt by a power loss goes to a slot. So where the same message is begun again after a power loss the places are
+/// there still, as long as the free slots are as many as the lost places. Any other group begins anew each time.
 #[derive(Drop)]
 pub struct JournalStage {
     most: u32,

@@ -1,4 +1,4 @@
-//! STUBS until jread's functions stand.
+//! What the spare journal says of a place: whether it is marked, in which slot it is; and which slot is free.
 
 ghost use Rattle.std.specs.Prelude.{◌≡◌, ◌↔◌, ◌+◌, ◌<◌, ◌≤◌, ◌||◌, IfOk, IfSome, IsTrue, OnErr, OnOk, Some, false, true, ℕ};
 ghost use Rattle.bank_kept.specs.Bank.{area_of_bank};
@@ -25,6 +25,7 @@ use flash_dev::Flash;
 use flash_layout::shape_of;
 use ssu_group::{BlockMap, GroupPlan, Place};
 
+/// Whether range and mark pair of a place are blank throughout: it was neither stored nor lost.
 pub(crate) fn is_untouched<F: Flash>(
     bank: &mut Bank,
     flash: &mut F,
@@ -47,6 +48,7 @@ pub(crate) fn is_untouched<F: Flash>(
     is_blank(bank, flash, Side::InJournal, 8448 + 2 * place.number, 2)
 }
 
+/// The first slot that is blank throughout, if there is one.
 pub(crate) fn first_free<F: Flash>(
     bank: &mut Bank,
     flash: &mut F,
@@ -72,6 +74,7 @@ pub(crate) fn first_free<F: Flash>(
     Ok(None)
 }
 
+/// Whether the mark pair of a place says that its range of the bank holds it.
 pub(crate) fn is_marked<F: Flash>(
     bank: &mut Bank,
     flash: &mut F,
@@ -91,6 +94,7 @@ pub(crate) fn is_marked<F: Flash>(
     Ok(pair[0] == 0 && pair[1] == 255)
 }
 
+/// The first valid slot with the range of a place, if there is one.
 pub(crate) fn slot_of<F: Flash>(
     bank: &mut Bank,
     flash: &mut F,

@@ -40,6 +40,7 @@ fn range_of(head: &[u8], len: u32) -> Option<SlotRange>
     }
 }
 
+/// Whether the head of a slot, which says this range, is whole, with the magic, and the range has 1 to 4,066 bytes inside a bank of `len`.
 fn is_valid(head: &[u8], range: SlotRange, len: u32) -> bool
     requires head { length head.now ≡ 16 }
     requires at { range.at ≡ slot_at head.now }

@@ -13,7 +13,7 @@ use flash_bank::{Bank, FlashFault};
 use flash_dev::Flash;
 use ssu_compat::SwId;
 
-/// Erases the spare record block and the spare bank, fills the bank from its front and commits the record.
+/// Erases the spare record block and the spare area, fills the bank from its front and commits the record.
 pub(crate) fn install<F: Flash>(
     bank: &mut Bank,
     flash: &mut F,

@@ -15,7 +15,7 @@ use ssu_group::{GroupPlan, ModulePlan, Place};
 use ssu_io::NoMemory;
 use std::alloc::Global;
 
-/// The group in memory. The flash is touched in `finish` alone, which erases the spare record block and the spare bank,
+/// The group in memory. The flash is touched in `finish` alone, which erases the spare record block and the spare area,
 /// fills the bank with the whole image and commits the record.
 #[derive(Drop)]
 pub struct RamStage {

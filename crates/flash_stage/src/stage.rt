@@ -1,9 +1,11 @@
 //! A stage as the loader sees it.
 
 ghost use Rattle.std.specs.Prelude.{◌≡◌, ◌↔◌, ◌≢◌, ◌+◌, ◌-◌, ◌<◌, ◌≤◌, Bool, Contains, IfOk, List, OnErr, OnOk, Some, true, false, length, ℕ};
+ghost use Rattle.flash_dev.specs.Changes.{Changes, IsErased};
 ghost use Rattle.flash_dev.specs.Moments.{LeavesOnly};
 ghost use Rattle.bank_kept.specs.Leaving.{HoldsNoMore, KeepsStaged};
-ghost use Rattle.flash_bank.specs.Bank.{Fits, IsLent, block_of, current_of, geometry_of, is_begun, is_spent, len_of, spare_bank};
+ghost use Rattle.flash_bank.specs.Bank.{Fits, IsLent, block_of, current_of, geometry_of, is_begun, is_spent, len_of, spare_bank, spare_journal};
+ghost use Rattle.flash_bank.specs.Journal.{LeavesForgotten};
 ghost use Rattle.flash_bank.specs.Leaving.{Installs, KeepsBoot};
 ghost use Rattle.flash_layout.specs.Pairs.{part};
 ghost use Rattle.flash_bank.specs.Record.{next_record};
@@ -91,6 +93,9 @@ pub trait Stage: Sized + Drop {
         ensures plan { OnOk result (plan_of self.new ≡ outline_of plan.now) }
         ensures message { KEEPS ≡ true → OnOk result (message_of self.new ≡ message.now) }
         ensures empty { KEEPS ≡ false → OnOk result ((number : ℕ) → number < plan.now.places → has self.new number ≡ false) }
+        // So it is of a group that is not kept, also where the flash tells nothing.
+        ensures empty_else { KEEPS ≡ true → (IsKeptIn bank.old plan.now.places → ⊥)
+            → OnOk result ((number : ℕ) → number < plan.now.places → has self.new number ≡ false) }
         ensures kept { F.tells → KEEPS ≡ true → OnOk result ((number : ℕ) → number < plan.now.places
             → (has self.new number ≡ true) ↔ IsStagedIn (geometry_of bank.old) (F.contents flash.old) message.now number) }
         ensures kept_bytes { F.tells → KEEPS ≡ true → OnOk result ((number : ℕ) (bytes : List ℕ)
@@ -154,7 +159,8 @@ pub trait Stage: Sized + Drop {
             (F.contents flash.old) (F.contents flash.new) }
         ensures one_more_left { F.tells → LeavesOnly F.moment F.left_since flash.old flash.new
             (HoldsOffered KEEPS (geometry_of bank.old) (message_of self.old) place.number bytes.now (F.contents flash.old)) }
-        // What was staged is, and the margin has not fallen; where the power goes it falls by one at most.
+        // At Ok all that was staged is, and the margin has not fallen. Where the power goes it falls by one at most, and if it was at least
+        // 1, all that was staged is.
         ensures staged { F.tells → KEEPS ≡ true → OnOk result (KeepsStaged (geometry_of bank.old) 0 0 (F.contents flash.old) (F.contents flash.new)) }
         ensures staged_held { F.tells → KEEPS ≡ true → KeepsStaged (geometry_of bank.old) 1 1 (F.contents flash.old) (F.contents flash.new) }
         ensures staged_left { F.tells → KEEPS ≡ true → LeavesOnly F.moment F.left_since flash.old flash.new
@@ -250,15 +256,22 @@ pub trait Stage: Sized + Drop {
         ensures block_size { F.block_len flash.new ≡ F.block_len flash.old }
         ensures cause { HasCause (F.faults flash.old) (F.faults flash.new) result };
 
-    /// Lets go of the group, if it began one: no place of it is staged, and in the flash none is. A stage that keeps nothing makes no call
-    /// of the flash, and over layout 1 none does. `FlashFault` comes only where the flash failed and its count of faults rose; the bank is
-    /// spent then.
+    /// Lets go of the group, if it began one: no place of it is staged. A stage that keeps its places erases the first block of the spare
+    /// journal in layout 2, so that the flash has nothing staged, and the bank is not begun then; no other call of the flash is made.
+    /// `FlashFault` comes only where the flash failed and its count of faults rose; the bank is spent then.
     fn forget<F: Flash>(&mut self, bank: &mut Bank, flash: &mut F) -> Result<(), FlashFault>
         requires lent { IsLent F.tells F.contents F.block_count F.block_len bank.old flash.old }
         ensures lent { OnOk result (IsLent F.tells F.contents F.block_count F.block_len bank.new flash.new) }
         ensures plan { plan_of self.new ≡ plan_of self.old }
         ensures empty { OnOk result ((number : ℕ) → number < (plan_of self.old).places → has self.new number ≡ false) }
         ensures none { F.tells → KEEPS ≡ true → OnOk result (StagesNone (geometry_of bank.old) (F.contents flash.new)) }
+        ensures forgot { F.tells → KEEPS ≡ true → (current_of bank.old).layout ≡ 2 → OnOk result (Changes (spare_journal bank.old)
+            (geometry_of bank.old).block_len IsErased (F.contents flash.old) (F.contents flash.new)) }
+        ensures forgot_held { F.tells → KEEPS ≡ true → (current_of bank.old).layout ≡ 2
+            → LeavesForgotten bank.old (F.contents flash.old) (F.contents flash.new) }
+        ensures forgot_left { F.tells → KEEPS ≡ true → (current_of bank.old).layout ≡ 2
+            → LeavesOnly F.moment F.left_since flash.old flash.new (LeavesForgotten bank.old (F.contents flash.old)) }
+        ensures not_begun { KEEPS ≡ true → (current_of bank.old).layout ≡ 2 → OnOk result (is_begun bank.new ≡ false) }
         ensures held { F.tells → KeepsBoot (geometry_of bank.old) (F.contents flash.old) (F.contents flash.new) }
         ensures left { F.tells → LeavesOnly F.moment F.left_since flash.old flash.new
             (KeepsBoot (geometry_of bank.old) (F.contents flash.old)) }

@@ -1,4 +1,4 @@
-//! Tests of the headend, and of what the commands stand on: sources, sinks and shelves, words, answers and lines.
+//! Tests of the headend, and of what the commands stand on: sources, sinks and shelves, files as flashes, words, answers and lines.
 #![tactic(auto)]
 
 #[cfg(test)]
@@ -6,11 +6,15 @@ mod check;
 #[cfg(test)]
 mod due_wheel_tests;
 #[cfg(test)]
+mod flash_file_tests;
+#[cfg(test)]
 mod head_carousel_tests;
 #[cfg(test)]
 mod head_mux_tests;
 #[cfg(test)]
 mod head_plan_tests;
+#[cfg(test)]
+mod paths;
 #[cfg(test)]
 mod ssu_answer_tests;
 #[cfg(test)]

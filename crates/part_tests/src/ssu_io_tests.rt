@@ -1,13 +1,14 @@
 //! Sources, sinks and shelves, in memory and over files, and the names of files.
 
 use crate::check::same;
+use crate::paths::path_of;
 use ssu_io::{
     Failed, FolderShelf, MemShelf, MemSink, MemSource, NoMemory, RealSink, RealSource, Shelf,
     ShelfError, Sink, Source, StdSink, file_name, is_file_name,
 };
 use std::alloc::Global;
+use std::fs;
 use std::test::Fail;
-use std::{env, fs, process};
 
 /// Takes once with room for `room` bytes, 4 at most.
 fn taken<S: Source>(alloc: Global, source: &mut S, room: usize) -> Result<Vec<u8>, Fail> {
@@ -65,8 +66,7 @@ fn both_errors_of_memory_become_one(rt: HostRuntime) -> Result<(), Fail> {
 #[test]
 fn a_file_is_made_at_the_first_byte_and_read_back(rt: HostRuntime) -> Result<(), Fail> {
     let alloc = rt.alloc();
-    let folder = env::temp_dir(&rt)?;
-    let path = format!(in alloc; "{}/ssu_io_{}", folder.display(), process::id(rt.process()))?;
+    let path = path_of(&rt, "file")?;
     let mut sink = RealSink::new(&rt, path.clone()?);
     same(&rt, &sink.put(&[]), &Ok(()));
     let mut source = RealSource::new(&rt, path.clone()?);
@@ -89,15 +89,21 @@ fn a_file_is_made_at_the_first_byte_and_read_back(rt: HostRuntime) -> Result<(),
     Ok(())
 }
 
+/// What a thousand takes give, joined.
+fn read_whole<S: Source>(alloc: Global, source: &mut S) -> Result<Vec<u8>, Fail> {
+    let mut read = Vec::new(alloc);
+    let mut buf = [0u8; 100];
+    for _ in 0..1000usize {
+        let n = source.take(&mut buf)?;
+        read.extend_from_slice(&buf[..n])?;
+    }
+    Ok(read)
+}
+
 #[test]
 fn a_long_file_is_written_and_read_back_byte_for_byte(rt: HostRuntime) -> Result<(), Fail> {
     let alloc = rt.alloc();
-    let folder = env::temp_dir(&rt)?;
-    let path = format!(in alloc;
-        "{}/ssu_io_long_{}",
-        folder.display(),
-        process::id(rt.process())
-    )?;
+    let path = path_of(&rt, "long_file")?;
     let mut sink = RealSink::new(&rt, path.clone()?);
     // 200 pieces of 188 bytes, more than a source reads at once
     for n in 0..200u8 {
@@ -105,13 +111,7 @@ fn a_long_file_is_written_and_read_back_byte_for_byte(rt: HostRuntime) -> Result
     }
     let bytes = fs::read(&rt, &path)?;
     same(&rt, &bytes.len(), &(200 * 188));
-    let mut source = RealSource::new(&rt, path.clone()?);
-    let mut read = Vec::new(alloc);
-    let mut buf = [0u8; 100];
-    for _ in 0..1000usize {
-        let n = source.take(&mut buf)?;
-        read.extend_from_slice(&buf[..n])?;
-    }
+    let read = read_whole(alloc, &mut RealSource::new(&rt, path.clone()?))?;
     for (at, byte) in read.iter().enumerate() {
         same(&rt, &usize::from(*byte), &(at / 188));
     }
@@ -180,9 +180,7 @@ fn a_listed_call_fails_where_the_shelf_has_the_name(rt: HostRuntime) -> Result<(
 #[test]
 fn a_folder_gives_its_files_and_nothing_else(rt: HostRuntime) -> Result<(), Fail> {
     let alloc = rt.alloc();
-    let top = env::temp_dir(&rt)?;
-    let id = process::id(rt.process());
-    let folder = format!(in alloc; "{}/ssu_io_files_{id}", top.display())?;
+    let folder = path_of(&rt, "files")?;
     let file = format!(in alloc; "{folder}/a.bin")?;
     let inner = format!(in alloc; "{folder}/inner")?;
     fs::create_dir(&rt, folder.as_str())?;

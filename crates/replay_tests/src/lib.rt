@@ -2,6 +2,8 @@
 #![tactic(auto)]
 
 #[cfg(test)]
+mod broadcast_tests;
+#[cfg(test)]
 mod check;
 #[cfg(test)]
 mod night_tests;
@@ -9,6 +11,8 @@ mod night_tests;
 pub mod public_names;
 #[cfg(test)]
 mod resume_tests;
+#[cfg(test)]
+mod run_spared_tests;
 #[cfg(test)]
 mod ssu_tool_tests;
 #[cfg(test)]

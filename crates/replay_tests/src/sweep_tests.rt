@@ -39,13 +39,14 @@ modules = [\"new.bin\"]
 /// The image of the flash before a replay.
 const OLD: &[u8] = b"old";
 
-/// The length of the new image, and of the flash, which has 22 blocks of 4,096 bytes.
+/// The length of the new image.
 const NEW_LEN: usize = 20_000;
 
-const FLASH_LEN: usize = 90_112;
+/// The length of the larger flash, which has 520 blocks.
+const MOST_LEN: usize = 520 * 4096;
 
 /// More calls than any run makes of one object.
-const MOST: u32 = 400;
+const MOST: u32 = 600;
 
 /// What a command is lent, but for the flash.
 #[derive(Clone, Copy, PartialEq, Eq)]
@@ -97,15 +98,24 @@ fn shelf_of(alloc: Global, fails: Vec<u32>) -> Result<MemShelf, Fail> {
 
 /// A flash with these contents.
 fn holding(alloc: Global, contents: &[u8]) -> Result<MemFlash, Fail> {
-    if contents.len() != FLASH_LEN {
-        return Err("not 22 blocks".into());
+    if contents.len() > MOST_LEN || contents.len() % 4096 != 0 {
+        return Err("not whole blocks of a flash".into());
     }
     Ok(MemFlash::holding(alloc, contents, 4096, MOST)?)
 }
 
-/// The contents of a flash with the old image.
-fn formatted(alloc: Global) -> Result<Vec<u8>, Fail> {
-    let mut flash = MemFlash::blank(alloc, 22, 4096, MOST)?;
+/// The contents of a flash of 22 blocks with the old image, which is of layout 1.
+fn small(alloc: Global) -> Result<Vec<u8>, Fail> {
+    formatted(alloc, MemFlash::blank(alloc, 22, 4096, MOST)?)
+}
+
+/// The contents of a flash of 520 blocks with the old image, which is of layout 2.
+fn large(alloc: Global) -> Result<Vec<u8>, Fail> {
+    formatted(alloc, MemFlash::blank(alloc, 520, 4096, MOST)?)
+}
+
+/// What the flash holds once it is formatted with the old image.
+fn formatted(alloc: Global, mut flash: MemFlash) -> Result<Vec<u8>, Fail> {
     let software = SwId {
         model: 1,
         version: 1,
@@ -162,7 +172,7 @@ fn outcome_of(
 
 /// The packets of the plan.
 fn packets(alloc: Global) -> Result<Vec<u8>, Fail> {
-    let held = formatted(alloc)?;
+    let held = small(alloc)?;
     let built = outcome_of(alloc, &["build"], &[], &held, Harm::None, 1)?;
     if built.status != Status::Done {
         return Err("it is not built".into());
@@ -186,11 +196,16 @@ fn boots_new(alloc: Global, held: &[u8]) -> Result<bool, Fail> {
 
 /// Replays with each call of the flash harmed in turn. Boot takes the old image or the whole new one, the new one only after the
 /// last call, and a second replay installs, since the rule of the box admits what runs too. Answers how many calls there were.
-fn sweep(rt: &impl Abort, alloc: Global, air: &[u8], harm: Harm) -> Result<u32, Fail> {
-    let start = formatted(alloc)?;
+fn sweep(
+    rt: &impl Abort,
+    alloc: Global,
+    air: &[u8],
+    start: &[u8],
+    harm: Harm,
+) -> Result<u32, Fail> {
     let mut is_new = false;
     for call in 1..MOST {
-        let outcome = outcome_of(alloc, &["replay"], air, &start, harm, call)?;
+        let outcome = outcome_of(alloc, &["replay"], air, start, harm, call)?;
         if matches!(outcome.status, Status::Installed(_)) {
             assert!(rt; boots_new(alloc, &outcome.held)?);
             return Ok(call - 1);
@@ -207,22 +222,41 @@ fn sweep(rt: &impl Abort, alloc: Global, air: &[u8], harm: Harm) -> Result<u32, 
     Err("more calls".into())
 }
 
+/// Sweeps with each harm, where there are at least so many erases and programs, and reads.
+fn sweep_each(
+    rt: &impl Abort,
+    alloc: Global,
+    start: &[u8],
+    changes: u32,
+    reads: u32,
+) -> Result<(), Fail> {
+    let air = packets(alloc)?;
+    for (harm, calls) in [
+        (Harm::Fails(Tear::Front(0)), changes),
+        (Harm::Stops(Tear::Front(0)), changes),
+        (Harm::Stops(Tear::Front(100)), changes),
+        (Harm::Stops(Tear::Drift(90)), changes),
+        (Harm::FailsToRead, reads),
+    ] {
+        assert!(rt; sweep(rt, alloc, &air, start, harm)? >= calls);
+    }
+    Ok(())
+}
+
 #[test]
 fn each_call_of_the_flash_fails_in_turn(rt: HostRuntime) -> Result<(), Fail> {
     let alloc = rt.alloc();
-    let air = packets(alloc)?;
     // An erase of the record block and of ten blocks of the bank, at least 79 pieces of 256 bytes at most, and the record; as many
     // pieces that are read back.
-    for (harm, calls) in [
-        (Harm::Fails(Tear::Front(0)), 91),
-        (Harm::Stops(Tear::Front(0)), 91),
-        (Harm::Stops(Tear::Front(100)), 91),
-        (Harm::Stops(Tear::Drift(90)), 91),
-        (Harm::FailsToRead, 79),
-    ] {
-        assert!(rt; sweep(&rt, alloc, &air, harm)? >= calls);
-    }
-    Ok(())
+    sweep_each(&rt, alloc, &small(alloc)?, 91, 79)
+}
+
+#[test]
+fn each_call_of_a_flash_with_a_journal_fails_in_turn(rt: HostRuntime) -> Result<(), Fail> {
+    let alloc = rt.alloc();
+    // An erase of the record block, of 21 blocks of the journal and of 238 of the bank, two programs of the journal's header, at
+    // least 79 pieces of the image, a mark of each of the five blocks, and the record; as many pieces that are read back.
+    sweep_each(&rt, alloc, &large(alloc)?, 347, 79)
 }
 
 /// Runs the command with each call of an object failing in turn. Each answer is the fault, until the command does not meet the
@@ -235,7 +269,7 @@ fn each_fails(
     object: Object,
     fault: Status,
 ) -> Result<(), Fail> {
-    let start = formatted(alloc)?;
+    let start = small(alloc)?;
     let harm = Harm::Of(object);
     let whole = outcome_of(alloc, command, air, &start, Harm::None, 1)?;
     for call in 1..MOST {

@@ -8,7 +8,6 @@ use Rattle.flash_bank.specs.Record.{next_record}
 use Rattle.flash_bank.specs.declared.bank.Bank.{Bank}
 use Rattle.flash_bank.specs.declared.record.Record.{Record}
 use Rattle.flash_stage.specs.declared.stage.Stage.{Ghosts as StageGhosts}
-use Rattle.flash_layout.specs.Layout.{Geometry}
 use Rattle.flash_stage.specs.Keeping.{IsPlanOfMessage}
 use Rattle.flash_stage.specs.Leaving.{SameBank}
 use Rattle.flash_stage.specs.Outline.{outline_of}
@@ -260,7 +259,7 @@ module _ {S F : Type 0} (s : StageGhosts S) (f : FlashGhosts F) (me : Receiver) 
       same = fills_passes me item heard choice.plan ahead.changes passes
 
   module _ (joins : window me (item ∷ heard) ≡ item.section ∷ window me heard) where
-    fills_more : fills_at me (item ∷ heard) choice.plan ≡ with_section choice.plan item.section (fills_at me heard choice.plan)
+    pub fills_more : fills_at me (item ∷ heard) choice.plan ≡ with_section choice.plan item.section (fills_at me heard choice.plan)
     fills_more = fills_joins me item heard choice.plan ahead.changes joins
 
     filled_more : filling choice.plan (window me (item ∷ heard)) ≡ with_section choice.plan item.section (filling choice.plan (window me heard))
@@ -362,13 +361,13 @@ module _ {S F : Type 0} (s : StageGhosts S) (f : FlashGhosts F) (me : Receiver) 
 
 module _ {S F : Type 0} (s : StageGhosts S) (f : FlashGhosts F) (me : Receiver) (item : Heard) (heard : List Heard) (c : Collector S) (flash : F) (choice : Choice)
     (ahead : IsAhead s f me item heard change.Chosen c flash) (is : IsChoice me (item ∷ heard) choice) (usable : HasUsableDii me (item ∷ heard) choice) (below : c.choices < 16) where
-  fewer : beginnings me heard < 16
+  pub fewer : beginnings me heard < 16
   fewer = let all = ahead.gathers.hears.counted in omega (arith, all, below)
 
   counted_now : c.choices + 1 ≡ beginnings me (item ∷ heard)
   counted_now = let all = ahead.gathers.hears.counted in let more = one_more_begins me item heard ahead.changes in omega (arith, all, more)
 
-  begun_now : IsStanding me (item ∷ heard) choice
+  pub begun_now : IsStanding me (item ∷ heard) choice
   begun_now =
       choice_stands me (item ∷ heard) choice (let all = counted_now in omega (arith, all, below)) (chosen_some me item heard ahead.changes) is
 

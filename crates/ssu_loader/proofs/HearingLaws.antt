@@ -29,11 +29,14 @@ use Rattle.ssu_loader.specs.declared.collector.Collector.{Collector}
 use Rattle.ssu_loader.specs.Collecting.{BeginsTooMany, Collects, IsUsable, StopsBefore}
 use Rattle.ssu_loader.specs.Decisions.{IsOpen, TooMany, Whole, Wrong}
 use Rattle.ssu_loader.specs.Leaving.{Ends, GoesOn, IfBadModule, IfUnsettled, InstallsChosen, SectionsLeave}
+use Rattle.ssu_loader.specs.Lasting.{KeepsMargin, Lasts}
 use Rattle.ssu_loader.specs.Starting.{KnowsKept}
 use Rattle.ssu_loader.proofs.KeepingLaws.{installs_joined, installs_moved, leaves_moved}
 use Rattle.ssu_loader.specs.Life.{HoldsHeard}
 use Rattle.ssu_loader.proofs.HoldingLaws.{holds_itself}
+use Rattle.ssu_loader.proofs.LastingLaws.{lasts_joined, lasts_more, lasts_same}
 use Rattle.ssu_loader.proofs.LeftLaws.{left_now}
+use Rattle.ssu_loader.proofs.MarginLaws.{margin_joined, margin_same}
 use Rattle.ssu_loader.proofs.StepLaws.{holds_joined, holds_more}
 use Rattle.ssu_route.specs.Windows.{beginnings, change_at, is_one_too_many}
 use Rattle.ssu_loader.specs.Verdicts.{IsFilled, IsSeen, IsTooMany, IsUnfilled}
@@ -173,6 +176,12 @@ module _ {S F : Type 0} (s : StageGhosts S) (f : FlashGhosts F) where
         → HoldsHeard (geometry_of old.bank) me (after_all pid (take k each) heard) (f.contents before) (f.contents now)
     pub holds_left : f.tells → (me : Receiver) (heard : List Heard) → Collects s f me heard old before
         → LeavesOnly f.moment f.left_since before now (HoldsHeard (geometry_of old.bank) me (after_all pid (take k each) heard) (f.contents before))
+    pub lasts : s.KEEPS ≡ true → f.tells → (me : Receiver) (heard : List Heard) → Collects s f me heard old before
+        → Lasts 0 (geometry_of old.bank) me (after_all pid (take k each) heard) heard (f.contents before) (f.contents now)
+    pub lasts_left : s.KEEPS ≡ true → f.tells → (me : Receiver) (heard : List Heard) → Collects s f me heard old before
+        → LeavesOnly f.moment f.left_since before now (Lasts 1 (geometry_of old.bank) me (after_all pid (take k each) heard) heard (f.contents before))
+    pub margin : s.KEEPS ≡ true → f.tells → (me : Receiver) (heard : List Heard) → Collects s f me heard old before
+        → KeepsMargin (geometry_of old.bank) (f.contents before) (f.contents now)
     pub blocks : f.block_count now ≡ f.block_count before
     pub block_size : f.block_len now ≡ f.block_len before
     pub later : f.faults before ≤ f.faults now
@@ -190,6 +199,11 @@ module _ {S F : Type 0} (s : StageGhosts S) (f : FlashGhosts F) where
     holds = λ tells me heard col. holds_itself (geometry_of c.bank) me (after_all pid (take 0 each) heard) (f.contents flash);
     holds_left = λ tells me heard col.
         left_now f only flash (HoldsHeard (geometry_of c.bank) me (after_all pid (take 0 each) heard) (f.contents flash)) (holds_itself (geometry_of c.bank) me (after_all pid (take 0 each) heard) (f.contents flash));
+    lasts = λ keeps tells me heard col. lasts_same 0 (geometry_of c.bank) me (after_all pid (take 0 each) heard) heard (f.contents flash);
+    lasts_left = λ keeps tells me heard col.
+        left_now f only flash (Lasts 1 (geometry_of c.bank) me (after_all pid (take 0 each) heard) heard (f.contents flash))
+        (lasts_same 1 (geometry_of c.bank) me (after_all pid (take 0 each) heard) heard (f.contents flash));
+    margin = λ keeps tells me heard col. margin_same (geometry_of c.bank) (f.contents flash);
     blocks = refl;
     block_size = refl;
     later = omega arith;
@@ -221,6 +235,25 @@ module _ {S F : Type 0} (s : StageGhosts S) (f : FlashGhosts F) where
         (weaker f.moment f.left_since between now (HoldsHeard (geometry_of mid.bank) me (next heard) (f.contents between)) (HoldsHeard (geometry_of old.bank) me (next heard) (f.contents before))
         (holds_next tells me heard col) call)
 
+    -- what was staged stays staged
+    lasts_next : (n : ℕ) → s.KEEPS ≡ true → f.tells → (me : Receiver) (heard : List Heard) → Collects s f me heard old before → (y : List ℕ)
+        → Lasts n (geometry_of mid.bank) me (next heard) (earlier heard) (f.contents between) y → Lasts n (geometry_of old.bank) me (next heard) heard (f.contents before) y
+    lasts_next n keeps tells me heard col y call =
+        lasts_joined n (geometry_of old.bank) me (heard_on pid section ∷ []) (reverse (map (heard_on pid) (take k each))) (earlier heard) heard (f.contents before) (f.contents between) y refl
+        (sofar.leaves tells).keeps (sofar.lasts keeps tells me heard col)
+        (subst (λ (g : Geometry). Lasts n g me (next heard) (earlier heard) (f.contents between) y) sofar.bank.geometry call)
+
+    lasts_next_left : s.KEEPS ≡ true → f.tells → (me : Receiver) (heard : List Heard) → Collects s f me heard old before
+        → LeavesOnly f.moment f.left_since between now (Lasts 1 (geometry_of mid.bank) me (next heard) (earlier heard) (f.contents between))
+        → LeavesOnly f.moment f.left_since before now (Lasts 1 (geometry_of old.bank) me (next heard) heard (f.contents before))
+    lasts_next_left keeps tells me heard col call =
+        let Now : List ℕ → Type 0 = Lasts 1 (geometry_of old.bank) me (next heard) heard (f.contents before) in
+        joined f.moment f.left_since before between now Now
+        (weaker f.moment f.left_since before between (Lasts 1 (geometry_of old.bank) me (earlier heard) heard (f.contents before)) Now
+        (λ y is. lasts_more 1 (geometry_of old.bank) me (heard_on pid section ∷ []) (earlier heard) heard (f.contents before) y is) (sofar.lasts_left keeps tells me heard col))
+        (weaker f.moment f.left_since between now (Lasts 1 (geometry_of mid.bank) me (next heard) (earlier heard) (f.contents between)) Now
+        (lasts_next 1 keeps tells me heard col) call)
+
     -- the next section was heard, and nothing is decided
     pub heard_more : ((me : Receiver) (heard : List Heard) → Collects s f me heard mid between → Collects s f me (heard_on pid section ∷ heard) new now)
         → (f.tells → (me : Receiver) (heard : List Heard) → Collects s f me heard mid between → KeepsBoot (geometry_of mid.bank) (f.contents between) (f.contents now))
@@ -230,9 +263,14 @@ module _ {S F : Type 0} (s : StageGhosts S) (f : FlashGhosts F) where
         → (f.tells → (me : Receiver) (heard : List Heard) → Collects s f me heard mid between → HoldsHeard (geometry_of mid.bank) me (heard_on pid section ∷ heard) (f.contents between) (f.contents now))
         → (f.tells → (me : Receiver) (heard : List Heard) → Collects s f me heard mid between
         → LeavesOnly f.moment f.left_since between now (HoldsHeard (geometry_of mid.bank) me (heard_on pid section ∷ heard) (f.contents between)))
+        → (s.KEEPS ≡ true → f.tells → (me : Receiver) (heard : List Heard) → Collects s f me heard mid between
+        → Lasts 0 (geometry_of mid.bank) me (heard_on pid section ∷ heard) heard (f.contents between) (f.contents now))
+        → (s.KEEPS ≡ true → f.tells → (me : Receiver) (heard : List Heard) → Collects s f me heard mid between
+        → LeavesOnly f.moment f.left_since between now (Lasts 1 (geometry_of mid.bank) me (heard_on pid section ∷ heard) heard (f.contents between)))
+        → (s.KEEPS ≡ true → f.tells → (me : Receiver) (heard : List Heard) → Collects s f me heard mid between → KeepsMargin (geometry_of mid.bank) (f.contents between) (f.contents now))
         → SameBank mid.bank new.bank → IsLent f.tells f.contents f.block_count f.block_len new.bank now → f.block_count now ≡ f.block_count between → f.block_len now ≡ f.block_len between → f.faults between ≤ f.faults now
         → HeardSoFar pid each (k + 1) old before new now
-    heard_more collects leaves left untouched holds holds_left bank lent blocks block_size later = record {
+    heard_more collects leaves left untouched holds holds_left lasts lasts_left margin bank lent blocks block_size later = record {
       collects = λ me heard col. subst (λ (items : List Heard). Collects s f me items new now) (sym (after_one_more pid each k section heard at)) (collects me (earlier heard) (sofar.collects me heard col));
       untouched = λ me heard col none.
           let items = earlier heard in
@@ -265,6 +303,18 @@ module _ {S F : Type 0} (s : StageGhosts S) (f : FlashGhosts F) where
       holds_left = λ tells me heard col.
           subst (λ (items : List Heard). LeavesOnly f.moment f.left_since before now (HoldsHeard (geometry_of old.bank) me items (f.contents before))) (sym (after_one_more pid each k section heard at))
           (holds_next_left tells me heard col (holds_left tells me (earlier heard) (sofar.collects me heard col)));
+      lasts = λ keeps tells me heard col.
+          subst (λ (items : List Heard). Lasts 0 (geometry_of old.bank) me items heard (f.contents before) (f.contents now)) (sym (after_one_more pid each k section heard at))
+          (lasts_next 0 keeps tells me heard col (f.contents now) (lasts keeps tells me (earlier heard) (sofar.collects me heard col)));
+      lasts_left = λ keeps tells me heard col.
+          subst (λ (items : List Heard). LeavesOnly f.moment f.left_since before now (Lasts 1 (geometry_of old.bank) me items heard (f.contents before))) (sym (after_one_more pid each k section heard at))
+          (lasts_next_left keeps tells me heard col (lasts_left keeps tells me (earlier heard) (sofar.collects me heard col)));
+      margin = λ keeps tells me heard col.
+          let so_far = sofar.collects me heard col in
+          let same = sofar.bank.geometry in
+          margin_joined (geometry_of old.bank) (f.contents before) (f.contents between) (f.contents now) (sofar.leaves tells).keeps
+          (leaves_moved old.bank mid.bank (f.contents between) (f.contents now) sofar.bank (leaves tells me (earlier heard) so_far)).keeps (sofar.margin keeps tells me heard col)
+          (subst (λ (g : Geometry). KeepsMargin g (f.contents between) (f.contents now)) same (margin keeps tells me (earlier heard) so_far));
       blocks = blocks ∙ sofar.blocks;
       block_size = block_size ∙ sofar.block_size;
       later = let a = sofar.later in omega (arith, a, later);
@@ -291,6 +341,21 @@ module _ {S F : Type 0} (s : StageGhosts S) (f : FlashGhosts F) where
         weaker f.moment f.left_since before now (HoldsHeard (geometry_of old.bank) me (next heard) (f.contents before)) (HoldsHeard (geometry_of old.bank) me (after_all pid each heard) (f.contents before))
         (λ y is. subst (λ (items : List Heard). HoldsHeard (geometry_of old.bank) me items (f.contents before) y) (sym (all_is heard)) (holds_more (geometry_of old.bank) me rest (next heard) (f.contents before) y is))
         (holds_next_left tells me heard col call)
+
+    -- what stays staged with the next section, whether or not it decides
+    pub heard_lasts : (n : ℕ) → s.KEEPS ≡ true → f.tells → (me : Receiver) (heard : List Heard) → Collects s f me heard old before → (y : List ℕ)
+        → Lasts n (geometry_of mid.bank) me (next heard) (earlier heard) (f.contents between) y → Lasts n (geometry_of old.bank) me (after_all pid each heard) heard (f.contents before) y
+    heard_lasts n keeps tells me heard col y call =
+        subst (λ (items : List Heard). Lasts n (geometry_of old.bank) me items heard (f.contents before) y) (sym (all_is heard))
+        (lasts_more n (geometry_of old.bank) me rest (next heard) heard (f.contents before) y (lasts_next n keeps tells me heard col y call))
+
+    pub heard_lasts_left : s.KEEPS ≡ true → f.tells → (me : Receiver) (heard : List Heard) → Collects s f me heard old before
+        → LeavesOnly f.moment f.left_since between now (Lasts 1 (geometry_of mid.bank) me (next heard) (earlier heard) (f.contents between))
+        → LeavesOnly f.moment f.left_since before now (Lasts 1 (geometry_of old.bank) me (after_all pid each heard) heard (f.contents before))
+    heard_lasts_left keeps tells me heard col call =
+        weaker f.moment f.left_since before now (Lasts 1 (geometry_of old.bank) me (next heard) heard (f.contents before)) (Lasts 1 (geometry_of old.bank) me (after_all pid each heard) heard (f.contents before))
+        (λ y is. subst (λ (items : List Heard). Lasts 1 (geometry_of old.bank) me items heard (f.contents before) y) (sym (all_is heard)) (lasts_more 1 (geometry_of old.bank) me rest (next heard) heard (f.contents before) y is))
+        (lasts_next_left keeps tells me heard col call)
 
     -- before any choice began, the flash is not called
     pub heard_untouched : ((me : Receiver) (heard : List Heard) → Collects s f me heard mid between → beginnings me (heard_on pid section ∷ heard) ≡ 0 → now ≡ between)

@@ -1,5 +1,5 @@
 -- Of places no more is held than was, but those that were heard.
-use Rattle.std.proofs.Common.{◌≡◌, ◌⊎◌, inl, inr, ⊎_elim, ℕ, true, List, ◌∷◌, Some, refl, sym, subst, ◌∙◌, arith}
+use Rattle.std.proofs.Common.{◌≡◌, inl, inr, ⊎_elim, ℕ, List, ◌∷◌, refl, sym, subst, ◌∙◌, arith}
 use Rattle.std.specs.Prelude.{Contains, IsSome}
 use Rattle.flash_bank.specs.Bank.{geometry_of}
 use Rattle.bank_kept.specs.Leaving.{HoldsNoMore}

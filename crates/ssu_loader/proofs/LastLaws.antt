@@ -1,15 +1,13 @@
 -- The message of the last choice, and the places that it has or had, section by section.
-use Rattle.std.proofs.Common.{◌≡◌, ℕ, Bool, true, false, ◌&&◌, List, [], ◌∷◌, Option, Some, None, refl, sym, ap, subst, ◌∙◌}
+use Rattle.std.proofs.Common.{◌≡◌, ℕ, List, [], ◌∷◌, Option, Some, None, refl, sym, ap, ◌∙◌}
 use Rattle.std.specs.Prelude.{IsSome}
-use Rattle.std.specs.Option.{option_and_then, option_or}
+use Rattle.std.specs.Option.{option_or}
 use Rattle.ts_section.specs.Events.{Heard}
 use Rattle.route_tables.specs.Values.{Receiver}
 use Rattle.ssu_group.specs.declared.group_plan.GroupPlan.{GroupPlan}
-use Rattle.ssu_group.specs.Carried.{Fills}
 use Rattle.ssu_route.specs.declared.change.Change.{Change}
 use Rattle.ssu_route.specs.declared.change.Change.TheVariants.{Same, Chosen, Lost}
 use Rattle.ssu_route.specs.Choosing.{level_7}
-use Rattle.ssu_route.specs.Offers.{dii_of, same_message}
 use Rattle.ssu_route.specs.Windows.{change_at}
 use Rattle.ssu_route.proofs.Choices.{level_7-none, lost_none, lost_stood, same_stays}
 use Rattle.ssu_loader.specs.Opening.{by_standing, fills_at, has_at, kept, last_message}

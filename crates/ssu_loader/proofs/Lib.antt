@@ -34,4 +34,8 @@ pub mod LastLaws
 pub mod RemainingLaws
 pub mod UnfilledLaws
 pub mod HoldingLaws
+pub mod LastingLaws
+pub mod MarginLaws
 pub mod ReplayStepLaws
+pub mod WindowsLaws
+pub mod FormatLaws

@@ -6,12 +6,11 @@ use Rattle.flash_bank.specs.Sound.{Boot, BootOf}
 use Rattle.flash_layout.specs.Layout.{Geometry, IsInLimits}
 use Rattle.ts_section.specs.Events.{Heard}
 use Rattle.route_tables.specs.Values.{Receiver}
-use Rattle.ssu_answer.specs.declared.chosen.Chosen.{Chosen}
 use Rattle.ssu_group.specs.Carried.{Fills}
 use Rattle.ssu_group.proofs.MapLaws.{all_marked}
 use Rattle.ssu_route.specs.Windows.{standing}
 use Rattle.ssu_loader.specs.Decisions.{Decides, Decision, IsWhole, Reaches, Whole}
-use Rattle.ssu_loader.specs.Life.{ComesOfLife, HeardInLife, HeardUnder, IsHeardImage, IsLife, IsStep, Replay, WasStaged, box_of, heard_of}
+use Rattle.ssu_loader.specs.Life.{ComesOfLife, HeardInLife, HeardUnder, InstallsOver, IsHeardImage, IsLife, IsStep, Replay, WasStaged, box_of, heard_of}
 use Rattle.ssu_loader.specs.Opening.{fills_at}
 use Rattle.ssu_loader.proofs.AdmittedLaws.{admitted_group}
 use Rattle.ssu_loader.proofs.OpenedLaws.{opened_place}
@@ -61,20 +60,22 @@ module _ (g : Geometry) (x : List ℕ) where
     from_origin front later parts message n b (inr h) =
         inl (subst (λ (xs : List Heard). HeardUnder (box_of g r) xs message n b) (sym parts) (heard_later (box_of g r) later front message n b h))
 
-    heard_image : (chosen : Chosen) (image : List ℕ) → Reaches (box_of g r) (heard_of g r) (Whole chosen image) → IsHeardImage g (r ∷ earlier) r image
-    heard_image chosen image reached =
+    heard_image : (b : Boot) → InstallsOver (box_of g r) (heard_of g r) r.former b → IsHeardImage g (r ∷ earlier) r b
+    heard_image b now =
         let me = box_of g r in
-        let at = decided_at me (heard_of g r) (Whole chosen image) reached in
-        let whole : IsWhole me at.front chosen image = at.decides in
+        let at = decided_at me (heard_of g r) (Whole now.chosen b.image) now.reached in
+        let whole : IsWhole me at.front now.chosen b.image = at.decides in
         let choice = whole.choice in
         let some = value_of (standing me at.front) whole.standing.stands in
         let fills : Fills = fills_at me at.front choice.plan in
         record {
+          installs = now;
           later = at.later;
           front = at.front;
           parts = at.parts;
           choice = choice;
           choice_stands = whole.standing;
+          own = whole.is;
           admitted = admitted_group me at.front choice.group whole.standing.chosen.group;
           message = some.0;
           stands = some.1;
@@ -88,12 +89,12 @@ module _ (g : Geometry) (x : List ℕ) where
           right = whole.whole.right;
         }
 
-  pub boots_after : (y : List ℕ) (replays : List Replay) (b : Boot) → IsInLimits g → IsLife g x replays y → BootOf g y b → BootOf g x b ⊎ ComesOfLife g replays b.image
+  pub boots_after : (y : List ℕ) (replays : List Replay) (b : Boot) → IsInLimits g → IsLife g x replays y → BootOf g y b → BootOf g x b ⊎ ComesOfLife g replays b
   unfolding IsLife ComesOfLife
   boots_after y [] b limits life boots = inl (subst (λ (c : List ℕ). BootOf g c b) life.0 boots)
   boots_after y (r ∷ earlier) b limits life boots =
       ⊎_elim
       (λ same. ⊎_elim (λ first. inl first) (λ before. inr (inr before))
       (boots_after r.before earlier b limits life.1 (subst (λ (t : Boot). BootOf g r.before t) (sym same) life.0.boots)))
-      (λ now. inr (inl (heard_image limits r earlier y life.0 life.1 now.chosen b.image now.reached)))
+      (λ now. inr (inl (heard_image limits r earlier y life.0 life.1 b now)))
       (life.0.steps.boot b boots)

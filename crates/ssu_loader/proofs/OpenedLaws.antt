@@ -1,7 +1,7 @@
 -- What is found at the opening is what the flash has staged, for a stage that keeps its places.
-use Rattle.std.proofs.Common.{◌≡◌, ℕ, ◌-◌, Bool, true, false, ◌&&◌, List, Some, refl, sym, ap, subst, ◌∙◌}
+use Rattle.std.proofs.Common.{◌≡◌, ℕ, ◌-◌, Bool, true, false, ◌&&◌, List, Option, Some, refl, sym, ap, subst, ◌∙◌, arith}
 use Rattle.std.specs.Prelude.{◌==◌}
-use Rattle.std.proofs.lemmas.Bool.{eq-eqb, eqb-true}
+use Rattle.std.proofs.lemmas.Bool.{eq-eqb, eqb-true, le-leb}
 use Rattle.bank_kept.specs.Contents.{HasSpareArea, StagesGroup, StagesPlace}
 use Rattle.bank_kept.proofs.AreaLaws.{area_of, area_order, is_area}
 use Rattle.dsmcc_msg.specs.Control.{DiiFields}
@@ -13,7 +13,9 @@ use Rattle.flash_kept.specs.Told.{staged_bytes, staged_message}
 use Rattle.flash_kept.proofs.ToldLaws.{bytes_told, message_told, staged_gives, staged_told}
 use Rattle.flash_layout.specs.Layout.{Geometry, IsInLimits}
 use Rattle.route_tables.specs.Values.{Opening}
-use Rattle.ssu_loader.specs.Opening.{opening_by, opening_in, opening_of}
+use Rattle.ssu_group.proofs.LayoutLaws.{laid_blocks}
+use Rattle.ssu_route.specs.Offers.{dii_of}
+use Rattle.ssu_loader.specs.Opening.{is_within, opening_by, opening_in, opening_of, places_in}
 
 -- the spare area, where this record is the current one
 abbrev area_beside : Geometry → Record → SpareArea
@@ -94,3 +96,15 @@ module _ (g : Geometry) (x : List ℕ) (b : Boot) (limits : IsInLimits g) (boots
       let two = two_of stages.area stages.spare in
       let staged = subst (λ (a : SpareArea). IsStaged a x message n bytes) (area_is stages.area stages.spare) stages.staged in
       ap (λ (o : Opening). o.staged n) (finds_all two) ∙ staged_gives (area_beside g b.head) x (order_is two) message n bytes staged
+
+  -- and its group is one that is kept
+  pub most_opened : (message : List ℕ) (dii : DiiFields) → StagesGroup g x message dii → is_within (opening_of true g b.head x).most (places_in (dii_of message)) ≡ true
+  unfolding dii_of
+  most_opened message dii stages =
+      let two = two_of stages.area stages.spare in
+      let staged = subst (λ (a : SpareArea). HasStagedMessage a x message dii) (area_is stages.area stages.spare) stages.staged in
+      let few = staged.held.few in
+      ap (λ (o : Opening). is_within o.most (places_in (dii_of message))) (finds_all two)
+      ∙ ap (λ (o : Option DiiFields). is_within (Some (area_beside g b.head).marks) (places_in o)) staged.held.reads
+      ∙ le-leb (places_in (Some dii)) (area_beside g b.head).marks
+      (let count = laid_blocks dii.block_size 0 0 dii.modules in omega (arith, count, few))

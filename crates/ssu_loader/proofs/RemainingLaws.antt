@@ -1,7 +1,6 @@
 -- What a flash has staged while sections are heard.
-use Rattle.std.proofs.Common.{◌≡◌, ◌⊎◌, ◌↔◌, inl, inr, ⊎_elim, ℕ, ◌-◌, ◌<◌, ◌≤◌, Bool, true, false, eqb, List, [], ◌∷◌, Option, Some, None, refl, sym, ap, subst, ◌∙◌, arith}
-use Rattle.std.specs.Prelude.{IsSome, if◌then◌else◌, is_some, sum_by, unwrap_or}
-use Rattle.std.specs.Option.{option_and_then}
+use Rattle.std.proofs.Common.{◌≡◌, ◌⊎◌, ◌↔◌, inl, inr, ℕ, ◌<◌, ◌≤◌, Bool, true, false, eqb, List, [], ◌∷◌, Option, Some, None, refl, sym, ap, subst, ◌∙◌, arith}
+use Rattle.std.specs.Prelude.{if◌then◌else◌, is_some, sum_by, unwrap_or}
 use Rattle.std.proofs.lemmas.Bool.{eq-eqb, eqb-true, le-leb, leb-true}
 use Rattle.bank_kept.specs.Bank.{area_of_bank}
 use Rattle.bank_kept.specs.Contents.{HasSpareArea, HoldsGroup, StagesGroup, StagesPlace}
@@ -22,7 +21,6 @@ use Rattle.flash_stage.specs.Keeping.{IsKeptIn, IsPlanOfMessage, StagesNone}
 use Rattle.flash_stage.specs.declared.stage.Stage.{Ghosts as StageGhosts}
 use Rattle.ts_section.specs.Events.{Heard}
 use Rattle.route_tables.specs.Values.{Opening, Receiver, nothing_open}
-use Rattle.ssu_group.specs.Carried.{Fills}
 use Rattle.ssu_group.specs.Lays.{IsPlanOf}
 use Rattle.ssu_group.specs.Plan.{block_count}
 use Rattle.ssu_group.specs.declared.group_plan.GroupPlan.{GroupPlan}
@@ -30,7 +28,6 @@ use Rattle.ssu_group.specs.declared.module_plan.ModulePlan.{ModulePlan}
 use Rattle.ssu_group.proofs.LayoutLaws.{laid_blocks}
 use Rattle.ssu_group.proofs.SamePlans.{same_plan}
 use Rattle.ssu_route.specs.declared.change.Change.TheVariants.{Same, Chosen}
-use Rattle.ssu_route.specs.declared.choice.Choice.{Choice}
 use Rattle.ssu_route.specs.Choosing.{level_7}
 use Rattle.ssu_route.specs.Offers.{dii_of, same_message}
 use Rattle.ssu_route.specs.Windows.{change_at, change_of}
@@ -180,7 +177,7 @@ module _ (me : Receiver) (heard : List Heard) (bank : Bank) (c : List ℕ) (plan
 
 module _ {S F : Type 0} (s : StageGhosts S) (f : FlashGhosts F) (me : Receiver) (item : Heard) (heard : List Heard) (bank : Bank) (flash : F) (plan : GroupPlan) (message : List ℕ)
     (bank_len : ℕ) (chosen : change_at me item heard ≡ Chosen) (now : level_7 me (item ∷ heard) ≡ Some message) (of_message : IsPlanOfMessage bank_len message plan) where
-  is_last : IsLastKept me heard message ⊎ (IsLastKept me heard message → ⊥)
+  pub is_last : IsLastKept me heard message ⊎ (IsLastKept me heard message → ⊥)
   is_last = by_same (same_message (last_message me heard) (Some message)) refl
     where
       by_within : last_message me heard ≡ Some message → (b : Bool) → is_within me.opening.most (places_in (dii_of message)) ≡ b

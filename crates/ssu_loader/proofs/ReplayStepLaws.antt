@@ -1,5 +1,5 @@
 -- What a replay leaves is a step of a life.
-use Rattle.std.proofs.Common.{◌≡◌, ℕ, Bool, List, [], Option, sym, subst}
+use Rattle.std.proofs.Common.{ℕ, Bool, List, Option, subst}
 use Rattle.box_file.specs.declared.file.BoxFile.{BoxFile}
 use Rattle.flash_bank.specs.Sound.{Boot, BootOf, IsSound}
 use Rattle.flash_bank.proofs.LeavingLemmas.{keeps_boot_same}

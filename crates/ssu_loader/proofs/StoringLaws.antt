@@ -27,7 +27,7 @@ use Rattle.ssu_loader.specs.declared.collector.Collector.{Collector}
 use Rattle.ssu_loader.specs.Collecting.{Collects, StopsBefore}
 use Rattle.ssu_loader.specs.Decisions.{IsStanding}
 use Rattle.ssu_loader.specs.Opening.{fills_at, is_within, places_in}
-use Rattle.ssu_loader.specs.Remaining.{IsLastKept, StagesLast, StagesStanding}
+use Rattle.ssu_loader.specs.Remaining.{IsLastKept, StagesBefore, StagesLast, StagesStanding}
 use Rattle.ssu_loader.specs.Storing.{EndsPrev, StandsInSpare, Stores, StoresBefore}
 use Rattle.ssu_loader.proofs.FreshLaws.{same_geometry}
 use Rattle.ssu_loader.proofs.ChoiceLaws.{chosen_read, dii_read}
@@ -145,3 +145,19 @@ module _ {S F : Type 0} (s : StageGhosts S) (f : FlashGhosts F) (keeps : s.KEEPS
   staged_in =
       subst (λ (g : Geometry). StagesStanding g (f.contents flash) me heard)
       (same_geometry (geometry_of c.bank) (blocks_of f flash) (sym col.gathers.lent.blocks) (sym col.gathers.lent.block_size)) staged_of
+
+  pub last_in : StagesLast me heard (blocks_of f flash) (f.contents flash)
+  last_in =
+      subst (λ (g : Geometry). StagesLast me heard g (f.contents flash))
+      (same_geometry (geometry_of c.bank) (blocks_of f flash) (sym col.gathers.lent.blocks) (sym col.gathers.lent.block_size)) (col.gathers.staged keeps tells)
+
+pub staged_before : {S F : Type 0} (s : StageGhosts S) (f : FlashGhosts F) → s.KEEPS ≡ true → f.tells → (me : Receiver) (heard : List Heard) (flash : F) → StopsBefore s f me heard flash
+    → StagesBefore me heard (blocks_of f flash) (f.contents flash)
+staged_before s f keeps tells me heard flash stops = record {
+  later = stops.later;
+  item = stops.item;
+  earlier = stops.earlier;
+  parts = stops.parts;
+  too_many = stops.too_many;
+  staged = last_in s f keeps tells me stops.earlier stops.collector flash stops.collects;
+}

@@ -1,6 +1,7 @@
 -- What a loader knows, and what it left, after the packets that it took of a source one after another.
 use Rattle.std.proofs.Common.{◌≡◌, inl, inr, ⊎_elim, ℕ, ◌+◌, ◌*◌, ◌<◌, List, [], ◌∷◌, ◌++◌, length, reverse, Bool, true, Option, Some, refl, sym, ap, subst, ◌∙◌, arith, length-append}
-use Rattle.std.proofs.lemmas.List.{reverse-append}
+use Rattle.std.proofs.lemmas.List.{append-nil, reverse-append}
+use Rattle.std.specs.Prelude.{Ok}
 use Rattle.ssu_io.specs.Bytes.{Takes}
 use Rattle.ssu_io.proofs.BytesLemmas.{Takes_none, Takes_join}
 use Rattle.ts_input.specs.Input.{TakesOne, TakesPackets, TakesRest}
@@ -30,22 +31,25 @@ use Rattle.ssu_loader.specs.Decisions.{IsOpen, Reaches, TooMany, Whole, Wrong}
 use Rattle.ssu_loader.specs.Collecting.{StopsBefore}
 use Rattle.ssu_loader.specs.Leaving.{Ends, IfBadModule, IfUnsettled, InstallsChosen, SectionsLeave}
 use Rattle.ssu_loader.specs.Loading.{Follows, IsUsable, KnowsPackets, KnowsPacketsHeard, bank_of}
-use Rattle.ssu_loader.specs.Remaining.{StagesStanding}
+use Rattle.ssu_loader.specs.Remaining.{StagesBefore, StagesLast, StagesStanding}
 use Rattle.ssu_loader.specs.Replays.{ComesSeen, EndsWith, HearsAtPacket, HearsIn, ReplayLeaves, TakesAndInstalls, heard_in}
 use Rattle.ssu_loader.specs.Life.{HoldsHeard, StepsTo}
+use Rattle.ssu_loader.specs.Lasting.{BreaksLasting, IsNoDecision, KeepsMargin, Lasts, TakesLasting}
 use Rattle.ssu_loader.specs.Starting.{KnowsKept}
 use Rattle.ssu_loader.specs.Stepping.{TakesStep}
 use Rattle.ssu_loader.specs.Storing.{HasNoPrev, Stores, StoresBefore}
 use Rattle.ssu_loader.specs.Verdicts.{IsLastSeen, IsReached, IsSeen, IsUndecided, IsVerdict}
 use Rattle.ssu_loader.proofs.FrontLaws.{none_before, packet_later, taken_is}
-use Rattle.ssu_loader.proofs.KeepingLaws.{installs_after, installs_of, leaves_after}
+use Rattle.ssu_loader.proofs.KeepingLaws.{installs_after, installs_of, leaves_after, leaves_moved}
 use Rattle.ssu_loader.proofs.FreshLaws.{same_geometry}
+use Rattle.ssu_loader.proofs.LastingLaws.{lasts_joined, lasts_more, lasts_same, lasts_weaker}
 use Rattle.ssu_loader.proofs.LeftLaws.{left_now}
+use Rattle.ssu_loader.proofs.MarginLaws.{margin_joined, margin_same}
 use Rattle.ssu_loader.proofs.CollectingLaws.{undecided_of}
 use Rattle.ssu_loader.proofs.HoldingLaws.{holds_itself}
 use Rattle.ssu_loader.proofs.StagedLaws.{both_left}
 use Rattle.ssu_loader.proofs.StepLaws.{holds_joined, holds_more, steps_install, steps_keep}
-use Rattle.ssu_loader.proofs.StoringLaws.{InBank, staged_of, stores_before, stores_of}
+use Rattle.ssu_loader.proofs.StoringLaws.{InBank, staged_before, staged_of, stores_before, stores_of}
 
 -- ---- what is heard in the bytes that were taken
 
@@ -104,6 +108,11 @@ pub record SoFar {S F : Type 0} (s : StageGhosts S) (f : FlashGhosts F) (count :
       → HoldsHeard (geometry_of (bank_of first)) me (heard_by me (newest_packets taken)) (f.contents old) (f.contents new)
   pub holds_left : f.tells → (me : Receiver) → Follows s f me [] first old
       → LeavesOnly f.moment f.left_since old new (HoldsHeard (geometry_of (bank_of first)) me (heard_by me (newest_packets taken)) (f.contents old))
+  pub lasts : s.KEEPS ≡ true → f.tells → (me : Receiver) → Follows s f me [] first old
+      → Lasts 0 (geometry_of (bank_of first)) me (heard_by me (newest_packets taken)) [] (f.contents old) (f.contents new)
+  pub lasts_left : s.KEEPS ≡ true → f.tells → (me : Receiver) → Follows s f me [] first old
+      → LeavesOnly f.moment f.left_since old new (Lasts 1 (geometry_of (bank_of first)) me (heard_by me (newest_packets taken)) [] (f.contents old))
+  pub margin : s.KEEPS ≡ true → f.tells → (me : Receiver) → Follows s f me [] first old → KeepsMargin (geometry_of (bank_of first)) (f.contents old) (f.contents new)
   pub untouched : (me : Receiver) → Follows s f me [] first old → beginnings me (heard_by me (newest_packets taken)) ≡ 0 → new ≡ old
   pub blocks : f.block_count new ≡ f.block_count old
   pub block_size : f.block_len new ≡ f.block_len old
@@ -128,6 +137,11 @@ so_far_none s f loader flash left only usable =
       holds_left = λ tells me follows.
           left_now f only flash (HoldsHeard (geometry_of (bank_of loader)) me (heard_by me (newest_packets [])) (f.contents flash))
           (holds_itself (geometry_of (bank_of loader)) me (heard_by me (newest_packets [])) (f.contents flash));
+      lasts = λ keeps tells me follows. lasts_same 0 (geometry_of (bank_of loader)) me (heard_by me (newest_packets [])) [] (f.contents flash);
+      lasts_left = λ keeps tells me follows.
+          left_now f only flash (Lasts 1 (geometry_of (bank_of loader)) me (heard_by me (newest_packets [])) [] (f.contents flash))
+          (lasts_same 1 (geometry_of (bank_of loader)) me (heard_by me (newest_packets [])) [] (f.contents flash));
+      margin = λ keeps tells me follows. margin_same (geometry_of (bank_of loader)) (f.contents flash);
       untouched = λ me follows none. refl;
       blocks = refl;
       block_size = refl;
@@ -145,6 +159,12 @@ pub record GoesOnWith {S F : Type 0} (s : StageGhosts S) (f : FlashGhosts F) (pa
       → HoldsHeard (geometry_of (bank_of now)) me (heard_by me (packet ∷ ps)) (f.contents mid) (f.contents new)
   pub holds_left : f.tells → (me : Receiver) (ps : List (List ℕ)) → Follows s f me ps now mid
       → LeavesOnly f.moment f.left_since mid new (HoldsHeard (geometry_of (bank_of now)) me (heard_by me (packet ∷ ps)) (f.contents mid))
+  pub lasts : s.KEEPS ≡ true → f.tells → (me : Receiver) (ps : List (List ℕ)) → Follows s f me ps now mid
+      → Lasts 0 (geometry_of (bank_of now)) me (heard_by me (packet ∷ ps)) (heard_by me ps) (f.contents mid) (f.contents new)
+  pub lasts_left : s.KEEPS ≡ true → f.tells → (me : Receiver) (ps : List (List ℕ)) → Follows s f me ps now mid
+      → LeavesOnly f.moment f.left_since mid new (Lasts 1 (geometry_of (bank_of now)) me (heard_by me (packet ∷ ps)) (heard_by me ps) (f.contents mid))
+  pub margin : s.KEEPS ≡ true → f.tells → (me : Receiver) (ps : List (List ℕ)) → Follows s f me ps now mid
+      → KeepsMargin (geometry_of (bank_of now)) (f.contents mid) (f.contents new)
   pub untouched : (me : Receiver) (ps : List (List ℕ)) → Follows s f me ps now mid → beginnings me (heard_by me (packet ∷ ps)) ≡ 0 → new ≡ mid
   pub same_bank : SameBank (bank_of now) (bank_of then)
   pub blocks : f.block_count new ≡ f.block_count mid
@@ -192,6 +212,38 @@ module _ {S F : Type 0} (s : StageGhosts S) (f : FlashGhosts F) (count : ℕ) (f
       (weaker f.moment f.left_since mid new (HoldsHeard (geometry_of (bank_of now)) me (with_packet me packet) (f.contents mid))
       (HoldsHeard (geometry_of (bank_of first)) me (with_packet me packet) (f.contents old)) (holds_packet tells me packet follows) call)
 
+  -- What was staged stays staged.
+  abbrev without_packet : Receiver → List Heard
+  without_packet me = heard_by me (newest_packets so_far.taken)
+
+  lasts_earlier : (me : Receiver) (packet : List ℕ) (z : List ℕ) → Lasts 1 (geometry_of (bank_of first)) me (heard_by me (newest_packets so_far.taken)) [] (f.contents old) z
+      → Lasts 1 (geometry_of (bank_of first)) me (with_packet me packet) [] (f.contents old) z
+  lasts_earlier me packet z was =
+      let more = packet_later me packet (newest_packets so_far.taken) in
+      subst (λ (items : List Heard). Lasts 1 (geometry_of (bank_of first)) me items [] (f.contents old) z) (sym more.is)
+      (lasts_more 1 (geometry_of (bank_of first)) me more.newer (without_packet me) [] (f.contents old) z was)
+
+  pub lasts_packet : (n : ℕ) → s.KEEPS ≡ true → f.tells → (me : Receiver) (packet : List ℕ) → Follows s f me [] first old → (y : List ℕ)
+      → Lasts n (geometry_of (bank_of now)) me (with_packet me packet) (without_packet me) (f.contents mid) y
+      → Lasts n (geometry_of (bank_of first)) me (with_packet me packet) [] (f.contents old) y
+  lasts_packet n keeps tells me packet follows y call =
+      let more = packet_later me packet (newest_packets so_far.taken) in
+      let was = without_packet me in
+      subst (λ (items : List Heard). Lasts n (geometry_of (bank_of first)) me items [] (f.contents old) y) (sym more.is)
+      (lasts_joined n (geometry_of (bank_of first)) me more.newer was was [] (f.contents old) (f.contents mid) y (sym (append-nil was)) (so_far.held tells).keeps (so_far.lasts keeps tells me follows)
+      (subst (λ (items : List Heard). Lasts n (geometry_of (bank_of first)) me items was (f.contents mid) y) more.is
+      (subst (λ (blocks : Geometry). Lasts n blocks me (with_packet me packet) was (f.contents mid) y) so_far.same.geometry call)))
+
+  pub lasts_packet_left : s.KEEPS ≡ true → f.tells → (me : Receiver) (packet : List ℕ) (new : F) → Follows s f me [] first old
+      → LeavesOnly f.moment f.left_since mid new (Lasts 1 (geometry_of (bank_of now)) me (with_packet me packet) (without_packet me) (f.contents mid))
+      → LeavesOnly f.moment f.left_since old new (Lasts 1 (geometry_of (bank_of first)) me (with_packet me packet) [] (f.contents old))
+  lasts_packet_left keeps tells me packet new follows call =
+      let Now : List ℕ → Type 0 = Lasts 1 (geometry_of (bank_of first)) me (with_packet me packet) [] (f.contents old) in
+      joined f.moment f.left_since old mid new Now
+      (weaker f.moment f.left_since old mid (Lasts 1 (geometry_of (bank_of first)) me (without_packet me) [] (f.contents old)) Now (lasts_earlier me packet) (so_far.lasts_left keeps tells me follows))
+      (weaker f.moment f.left_since mid new (Lasts 1 (geometry_of (bank_of now)) me (with_packet me packet) (without_packet me) (f.contents mid)) Now
+      (lasts_packet 1 keeps tells me packet follows) call)
+
   pub so_far_more : (then : Loader S) (new : F) (left_then : Option (List ℕ)) (packet : List ℕ)
       → Takes left_now left_then packet → length packet ≡ 188 → GoesOnWith s f packet now then mid new → SoFar s f (count + 1) first then old new left left_then
   so_far_more then new left_then packet takes one goes =
@@ -219,6 +271,18 @@ module _ {S F : Type 0} (s : StageGhosts S) (f : FlashGhosts F) (count : ℕ) (f
         holds_left = λ tells you follows.
             subst (λ (qs : List (List ℕ)). LeavesOnly f.moment f.left_since old new (HoldsHeard (geometry_of (bank_of first)) you (heard_by you qs) (f.contents old))) (sym (newest_more so_far.taken packet count so_far.whole one))
             (holds_packet_left tells you packet new follows (goes.holds_left tells you (newest_packets so_far.taken) (so_far.follows you follows)));
+        lasts = λ keeps tells you follows.
+            subst (λ (qs : List (List ℕ)). Lasts 0 (geometry_of (bank_of first)) you (heard_by you qs) [] (f.contents old) (f.contents new)) (sym (newest_more so_far.taken packet count so_far.whole one))
+            (lasts_packet 0 keeps tells you packet follows (f.contents new) (goes.lasts keeps tells you (newest_packets so_far.taken) (so_far.follows you follows)));
+        lasts_left = λ keeps tells you follows.
+            subst (λ (qs : List (List ℕ)). LeavesOnly f.moment f.left_since old new (Lasts 1 (geometry_of (bank_of first)) you (heard_by you qs) [] (f.contents old))) (sym (newest_more so_far.taken packet count so_far.whole one))
+            (lasts_packet_left keeps tells you packet new follows (goes.lasts_left keeps tells you (newest_packets so_far.taken) (so_far.follows you follows)));
+        margin = λ keeps tells you follows.
+            let before = so_far.follows you follows in
+            let taken = newest_packets so_far.taken in
+            margin_joined (geometry_of (bank_of first)) (f.contents old) (f.contents mid) (f.contents new) (so_far.held tells).keeps
+            (leaves_moved (bank_of first) (bank_of now) (f.contents mid) (f.contents new) so_far.same (goes.held tells you taken before)).keeps (so_far.margin keeps tells you follows)
+            (subst (λ (blocks : Geometry). KeepsMargin blocks (f.contents mid) (f.contents new)) so_far.same.geometry (goes.margin keeps tells you taken before));
         untouched = λ you follows none.
             untouched_more you packet new follows (goes.untouched you (newest_packets so_far.taken) (so_far.follows you follows))
             (ap (λ (qs : List (List ℕ)). beginnings you (heard_by you qs)) (sym (newest_more so_far.taken packet count so_far.whole one)) ∙ none);
@@ -252,6 +316,13 @@ module _ {S F : Type 0} (s : StageGhosts S) (f : FlashGhosts F) (count : ℕ) (f
       let sections = heard_by me (newest_packets so_far.taken) in
       subst (λ (blocks : Geometry). StagesStanding blocks (f.contents mid) me sections) so_far.same.geometry
       (staged_of s f keeps tells me sections now.collector mid (so_far.follows me follows).collects)
+
+  pub last_now : s.KEEPS ≡ true → f.tells → (me : Receiver) → Follows s f me [] first old
+      → StagesLast me (heard_by me (newest_packets so_far.taken)) (geometry_of (bank_of first)) (f.contents mid)
+  last_now keeps tells me follows =
+      let sections = heard_by me (newest_packets so_far.taken) in
+      subst (λ (blocks : Geometry). StagesLast me sections blocks (f.contents mid)) so_far.same.geometry
+      ((so_far.follows me follows).collects.gathers.staged keeps tells)
 
   pub undecided_now : (me : Receiver) → Follows s f me [] first old → IsUndecided (KnowsKept s f) me (heard_by me (newest_packets so_far.taken))
   undecided_now me follows = is_undecided s f me (newest_packets so_far.taken) now mid (so_far.follows me follows)
@@ -309,6 +380,23 @@ module _ {S F : Type 0} (s : StageGhosts S) (f : FlashGhosts F) (count : ℕ) (f
         weaker f.moment f.left_since old mid (λ y. KeepsBoot g x y × Holds y) (TakesStep me left left_last g x)
         (λ y is. step_kept me left_last all.taken all.takes sections_are y is.0 is.1)
         (both_left f old mid (KeepsBoot g x) Holds (so_far.left tells) (so_far.holds_left tells me follows))
+
+    -- and what was staged at the opening stays staged
+    pub lasts_end : (n : ℕ) → s.KEEPS ≡ true → TakesLasting n me left left_last (geometry_of (bank_of first)) (f.contents old) (f.contents mid)
+    lasts_end n keeps = record {
+      taken = all.taken;
+      takes = all.takes;
+      lasts = subst (λ (items : List Heard). Lasts n (geometry_of (bank_of first)) me items [] (f.contents old) (f.contents mid)) (sym sections_are)
+          (lasts_weaker n (geometry_of (bank_of first)) me (heard_by me (newest_packets so_far.taken)) [] (f.contents old) (f.contents mid) (so_far.lasts keeps tells me follows));
+    }
+
+    pub lasts_end_left : s.KEEPS ≡ true → LeavesOnly f.moment f.left_since old mid (TakesLasting 1 me left left_last (geometry_of (bank_of first)) (f.contents old))
+    lasts_end_left keeps =
+        let g = geometry_of (bank_of first) in
+        let x = f.contents old in
+        weaker f.moment f.left_since old mid (Lasts 1 g me (heard_by me (newest_packets so_far.taken)) [] x) (TakesLasting 1 me left left_last g x)
+        (λ y is. record { taken = all.taken; takes = all.takes; lasts = subst (λ (items : List Heard). Lasts 1 g me items [] x y) (sym sections_are) is })
+        (so_far.lasts_left keeps tells me follows)
 
   -- ---- an answer at a packet
 
@@ -411,6 +499,42 @@ module _ {S F : Type 0} (s : StageGhosts S) (f : FlashGhosts F) (count : ℕ) (f
         (weaker f.moment f.left_since old mid (λ y. KeepsBoot g x y × Before y) Step (λ y is. step_before y is.0 is.1) (both_left f old mid (KeepsBoot g x) Before (so_far.left tells) (so_far.holds_left tells me follows)))
         (weaker f.moment f.left_since mid new (λ y. Leaves y × Holds y) Step (λ y is. step_at y is.0 is.1) (both_left f mid new Leaves Holds during holds))
 
+    -- what was staged at the opening stays staged
+    lasts_of : (n : ℕ) (y : List ℕ) → Lasts n g me heard [] (f.contents old) y → TakesLasting n me left left_then g (f.contents old) y
+    lasts_of n y is = record {
+      taken = so_far.taken ++ packet;
+      takes = Takes_join left left_now left_then so_far.taken packet so_far.takes takes;
+      lasts = subst (λ (items : List Heard). Lasts n g me items [] (f.contents old) y) (sym sections_now) is;
+    }
+
+    pub lasts_at : (n : ℕ) → s.KEEPS ≡ true → (y : List ℕ) → Lasts n (geometry_of (bank_of now)) me heard (heard_by me (newest_packets so_far.taken)) (f.contents mid) y
+        → TakesLasting n me left left_then g (f.contents old) y
+    lasts_at n keeps y call = lasts_of n y (lasts_packet n keeps tells me packet follows y call)
+
+    pub lasts_at_left : s.KEEPS ≡ true → (new : F)
+        → LeavesOnly f.moment f.left_since mid new (Lasts 1 (geometry_of (bank_of now)) me heard (heard_by me (newest_packets so_far.taken)) (f.contents mid))
+        → LeavesOnly f.moment f.left_since old new (TakesLasting 1 me left left_then g (f.contents old))
+    lasts_at_left keeps new call =
+        weaker f.moment f.left_since old new (Lasts 1 g me heard [] (f.contents old)) (TakesLasting 1 me left left_then g (f.contents old)) (lasts_of 1)
+        (lasts_packet_left keeps tells me packet new follows call)
+
+    -- and so does what was staged before the packet
+    pub lasts_broken : s.KEEPS ≡ true → (y : List ℕ) → Lasts 1 (geometry_of (bank_of now)) me heard (heard_by me (newest_packets so_far.taken)) (f.contents mid) y
+        → BreaksLasting me left left_then g y
+    lasts_broken keeps y call = record {
+      count = count;
+      earlier = so_far.taken;
+      packet = packet;
+      takes = Takes_join left left_now left_then so_far.taken packet so_far.takes takes;
+      whole = so_far.whole;
+      one = one;
+      before = f.contents mid;
+      staged = subst (λ (items : List Heard). StagesLast me items g (f.contents mid)) (sym (heard_is me so_far.taken)) (last_now keeps tells me follows);
+      lasts = subst (λ (items : List Heard). Lasts 1 g me items (heard_in me so_far.taken) (f.contents mid) y) (sym sections_now)
+          (subst (λ (items : List Heard). Lasts 1 g me heard items (f.contents mid) y) (sym (heard_is me so_far.taken))
+          (subst (λ (blocks : Geometry). Lasts 1 blocks me heard (heard_by me (newest_packets so_far.taken)) (f.contents mid) y) so_far.same.geometry call));
+    }
+
     -- the verdict that it brings
     pub ends_at : (law : InBank s) (v : Verdict) (new : F) → Ends me heard (bank_of now) (f.contents mid) (f.contents new) v → IfUnsettled (Some v) (StopsBefore s f me heard new)
         → (s.IN_BANK ≡ true → IfBadModule (Some v) (HasNoPrev (geometry_of (bank_of now)) (f.contents new)))
@@ -430,10 +554,22 @@ module _ {S F : Type 0} (s : StageGhosts S) (f : FlashGhosts F) (count : ℕ) (f
         let lent = follows.collects.gathers.lent in
         let own : blocks_of f new ≡ g = same_geometry (blocks_of f new) g (blocks ∙ (so_far.blocks ∙ lent.blocks)) (lens ∙ (so_far.block_size ∙ lent.block_size)) in
         let y = f.contents new in (
-          at_packet me left_then packet (λ sections. IsReached me sections Unsettled × (s.IN_BANK ≡ true → StoresBefore g y me sections)) (IsOpen me) takes one few
-              (ends.0, λ is. subst (λ (blocks : Geometry). StoresBefore blocks y me heard) own (stores_before s f law is tells me heard new stops)) (open_now tells me follows),
+          at_packet me left_then packet (λ sections. IsReached me sections Unsettled × (s.IN_BANK ≡ true → StoresBefore g y me sections) × (s.KEEPS ≡ true → StagesBefore me sections g y)) (IsOpen me) takes one few (
+            ends.0,
+            λ is. subst (λ (blocks : Geometry). StoresBefore blocks y me heard) own (stores_before s f law is tells me heard new stops),
+            λ keeps. subst (λ (blocks : Geometry). StagesBefore me heard blocks y) own (staged_before s f keeps tells me heard new stops),
+          )
+              (open_now tells me follows),
           keeps_at y ends.1,
         )
+
+-- the verdict of a packet is a decision
+pub decides_something : (known : Type 0) (me : Receiver) (heard : List Heard) (v : Verdict) → IsSeen known me heard (Some v) → IsNoDecision (Ok v) → ⊥
+decides_something known me heard (Installed chosen) seen none = none
+decides_something known me heard (Nothing level) seen none = seen
+decides_something known me heard (Incomplete chosen count) seen none = seen
+decides_something known me heard (BadModule id want found) seen none = none
+decides_something known me heard Unsettled seen none = none
 
 -- ---- where no choice began
 
@@ -471,12 +607,13 @@ seen_last known me Unsettled left left_then hears end = absurd hears.now.partial
 abbrev pub EndsLast : Bool → Bool → Geometry → List ℕ → Receiver → Verdict → List Heard → Type 0
 EndsLast in_bank keeps g y me v heard =
     IsVerdict me heard v × IsOpen me heard × (in_bank ≡ true → Stores g y me heard) × (keeps ≡ true → StagesStanding g y me heard)
+    × (keeps ≡ true → StagesLast me heard g y)
 
 pub ends_last : (in_bank keeping : Bool) (me : Receiver) (v : Verdict) (left left_then : Option (List ℕ)) (g : Geometry) (x y : List ℕ)
     → HearsIn me left left_then IsWithin (EndsLast in_bank keeping g y me v) → IsAtEnd left_then → KeepsBoot g x y → EndsWith in_bank keeping me left left_then g x y v
 ends_last in_bank keeping me (Installed chosen) left left_then g x y hears end keeps = absurd (hears.now.1 (Whole chosen hears.now.0.0) hears.now.0.1)
 ends_last in_bank keeping me (Nothing level) left left_then g x y hears end keeps =
-    (record { hears = record { taken = hears.taken; takes = hears.takes; bytes = hears.bytes; now = (hears.now.0, λ staged. (hears.now.2 staged).gone) }; end = end }, keeps)
+    (record { hears = record { taken = hears.taken; takes = hears.takes; bytes = hears.bytes; now = (hears.now.0, λ staged. (hears.now.2 staged).gone, hears.now.4) }; end = end }, keeps)
 ends_last in_bank keeping me (Incomplete chosen missing) left left_then g x y hears end keeps =
     (record { hears = record { taken = hears.taken; takes = hears.takes; bytes = hears.bytes; now = (hears.now.0, hears.now.2, hears.now.3) }; end = end }, keeps)
 ends_last in_bank keeping me (BadModule id want found) left left_then g x y hears end keeps = absurd (hears.now.1 (Wrong id want found) hears.now.0)

@@ -1,6 +1,6 @@
 -- What is not decided by what was heard alone.
-use Rattle.std.proofs.Common.{◌≡◌, ℕ, ◌<◌, ◌≤◌, zero, suc, Bool, true, false, List, [], ◌∷◌, ◌++◌, Option, None, refl, sym, ap, subst, ◌∙◌, arith}
-use Rattle.std.specs.Prelude.{IsSome, IsTrue, is_some}
+use Rattle.std.proofs.Common.{◌≡◌, ℕ, ◌<◌, ◌≤◌, zero, suc, Bool, true, false, List, [], ◌∷◌, ◌++◌, None, refl, sym, ap, subst, ◌∙◌, arith}
+use Rattle.std.specs.Prelude.{IsTrue, is_some}
 use Rattle.ts_section.specs.Events.{Heard}
 use Rattle.route_tables.specs.Values.{Receiver}
 use Rattle.flash_stage.specs.declared.stage.Stage.{Ghosts as StageGhosts}
@@ -14,7 +14,6 @@ use Rattle.ssu_route.specs.Choosing.{level_7}
 use Rattle.ssu_route.specs.Windows.{IsChoice, is_one_too_many, window}
 use Rattle.ssu_route.proofs.Choices.{level_7-none}
 use Rattle.ssu_loader.specs.Collecting.{IncludesFilled}
-use Rattle.ssu_loader.specs.Decisions.{IsStanding}
 use Rattle.ssu_loader.specs.Verdicts.{IsUnfilled, LacksPlace}
 use Rattle.ssu_loader.proofs.ChoiceLaws.{all_missing, no_choice}
 use Rattle.ssu_loader.proofs.DecisionLaws.{one_choice}

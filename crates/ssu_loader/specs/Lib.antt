@@ -1,6 +1,7 @@
 pub mod Decisions
 pub mod Verdicts
 pub mod Collecting
+pub mod Lasting
 pub mod Leaving
 pub mod Life
 pub mod Loading

@@ -20,7 +20,7 @@ use Rattle.ssu_route.specs.Queries.{heard_by}
 use Rattle.ssu_route.specs.Windows.{standing, window}
 use Rattle.ssu_route.specs.declared.choice.Choice.{Choice}
 use Rattle.ts_input.specs.Packets.{packets}
-use Rattle.ssu_loader.specs.Decisions.{IsStanding, Reaches, Whole}
+use Rattle.ssu_loader.specs.Decisions.{IsStanding, Reaches, Whole, chosen_of}
 use Rattle.ssu_loader.specs.Opening.{opening_of}
 use Rattle.ssu_loader.specs.Replaying.{receiver_under}
 use Rattle.ssu_loader.specs.Replays.{record_after}
@@ -131,23 +131,26 @@ pub record IsAdmitted (me : Receiver) (heard : List Heard) (id : ℕ) : Type 0 w
   pub matching : matches_box me group ≡ true
   pub admitted : admits me.file.rule me.running (offered me.file.id.oui group.compat) ≡ true
 
--- The image is that of a group that this replay installed, the newest of these. The choice of it stood under one message; its group matches
--- the box and was admitted, each block of it was heard under that message in one of these replays, and the CRC of each module is right.
-pub record IsHeardImage (g : Geometry) (replays : List Replay) (r : Replay) (image : List ℕ) : Type 0 where
+-- This replay, the newest of these, installed the image over what boot took before it. It is that of the group of a choice that stood under one
+-- message; the group matches the box and was admitted in this replay, each block of it was heard under that message in one of these replays, and
+-- the CRC of each module is right.
+pub record IsHeardImage (g : Geometry) (replays : List Replay) (r : Replay) (b : Boot) : Type 0 where
+  pub installs : InstallsOver (box_of g r) (heard_of g r) r.former b
   pub later : List Heard
   pub front : List Heard
   pub parts : heard_of g r ≡ later ++ front
   pub choice : Choice
   pub choice_stands : IsStanding (box_of g r) front choice
+  pub own : installs.chosen ≡ chosen_of choice
   pub admitted : IsAdmitted (box_of g r) front choice.group
   pub message : List ℕ
   pub stands : standing (box_of g r) front ≡ Some message
   pub text : ℕ → List ℕ
-  pub joins : image ≡ joined text choice.plan.places
+  pub joins : b.image ≡ joined text choice.plan.places
   pub heard : (n : ℕ) → n < choice.plan.places → HeardInLife g replays message n (text n)
-  pub right : wrong_module choice.plan.modules.items image ≡ None
+  pub right : wrong_module choice.plan.modules.items b.image ≡ None
 
--- One of these replays installed such an image.
-unfoldable pub ComesOfLife : Geometry → List Replay → List ℕ → Type 0
-ComesOfLife g [] image = ⊥
-ComesOfLife g (r ∷ earlier) image = IsHeardImage g (r ∷ earlier) r image ⊎ ComesOfLife g earlier image
+-- One of these replays installed such an image, and boot takes it.
+unfoldable pub ComesOfLife : Geometry → List Replay → Boot → Type 0
+ComesOfLife g [] b = ⊥
+ComesOfLife g (r ∷ earlier) b = IsHeardImage g (r ∷ earlier) r b ⊎ ComesOfLife g earlier b

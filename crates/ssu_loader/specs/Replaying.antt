@@ -1,5 +1,5 @@
 -- What a whole replay does for a box: what it leaves in the flash, and what each answer says.
-use Rattle.std.specs.Prelude.{◌≡◌, ◌≤◌, ◌⊎◌, ◌++◌, ℕ, Bool, false, List, Some, length, Result, IfErr, IfOk, IsErrOf, IsOkAnd}
+use Rattle.std.specs.Prelude.{◌≡◌, ◌≤◌, ◌⊎◌, ◌++◌, ℕ, Bool, true, false, List, Some, length, Result, IfErr, IfOk, IsErrOf, IsOkAnd}
 use Rattle.box_file.specs.declared.file.BoxFile.{BoxFile}
 use Rattle.flash_layout.specs.Layout.{Geometry, IsInLimits}
 use Rattle.flash_bank.specs.Layout.{len_under}
@@ -17,8 +17,10 @@ use Rattle.ssu_loader.specs.declared.fault.LoadFault.TheVariants as load_fault
 use Rattle.ssu_loader.specs.declared.fault.LoadFault.TheVariants.{FlashFault, Foreign, Worn, Memory, ReadFault, TooLong}
 use Rattle.ssu_answer.specs.declared.verdict.Verdict.{Verdict}
 use Rattle.ssu_answer.specs.declared.verdict.Verdict.TheVariants.{Installed}
+use Rattle.ssu_loader.specs.Lasting.{BreaksLasting, IsNoDecision, KeepsMargin, TakesLasting}
 use Rattle.ssu_loader.specs.Opening.{opening_of}
-use Rattle.ssu_loader.specs.Replays.{BeginsNone, BreaksAtPacket, CarriesFirst, ComesSeen, EndsWith, ReachesNone, ReplayLeaves, record_after}
+use Rattle.ssu_loader.specs.Remaining.{StagesLast}
+use Rattle.ssu_loader.specs.Replays.{BeginsNone, BreaksAtPacket, CarriesFirst, ComesSeen, EndsWith, HearsIn, ReachesNone, ReplayLeaves, record_after}
 use Rattle.ssu_loader.specs.Verdicts.{receiver_of}
 
 -- ---- the flash
@@ -75,11 +77,14 @@ Breaks keeps box_file air flash =
     IsNotBegun air flash
     ⊎ (IsReady flash × AsBox keeps box_file flash (λ me. BreaksAtPacket (IsKnown keeps flash) me air.left air.left_after))
 
--- So many bytes were taken, and no verdict was reached in their packets. Boot takes what it took.
+-- So many bytes were taken, and no verdict was reached in their packets. Boot takes what it took, and of a stage that keeps its places those of
+-- the last choice are staged still.
 pub record IsCutShort (keeping : Bool) (box_file : BoxFile) (air : SourceSeen) (flash : FlashSeen) (Length : ℕ → Type 0) : Type 0 where
   pub ready : IsReady flash
   pub reaches : AsBox keeping box_file flash (λ me. ReachesNone (IsKnown keeping flash) me air.left air.left_after Length)
   pub keeps : flash.tells → KeepsBoot flash.blocks flash.contents flash.contents_after
+  pub staged : keeping ≡ true → flash.tells → AsBox keeping box_file flash (λ me.
+      HearsIn me air.left air.left_after Length (λ heard. StagesLast me heard flash.blocks flash.contents_after))
 
 -- Why there is no verdict.
 abbrev pub Fails : Bool → BoxFile → SourceSeen → FlashSeen → LoadFault → Type 0
@@ -116,6 +121,21 @@ pub record ReplaysBox (in_bank keeps : Bool) (box_file : BoxFile) (result : Resu
   -- What each answer says.
   pub ends : IfOk result (Ends in_bank keeps box_file air flash)
   pub fails : IfErr result (Fails keeps box_file air flash)
+  -- Of a stage that keeps its places, what the flash had staged at the opening stays staged, up to the end that `Lasts` names, and the margin falls
+  -- by one at most, for a fault or a power loss ends the replay. Where neither came it has not fallen.
+  pub lasts : keeps ≡ true → flash.tells → IsSound flash.blocks flash.contents → (former : Boot) → BootOf flash.blocks flash.contents former
+      → AtAnyMoment flash
+      (TakesLasting 1 (receiver_at keeps box_file flash former) air.left air.left_after flash.blocks flash.contents)
+  pub lasts_unfailed : ¬ IsErrOf result FlashFault → keeps ≡ true → flash.tells → IsSound flash.blocks flash.contents → (former : Boot)
+      → BootOf flash.blocks flash.contents former
+      → TakesLasting 0 (receiver_at keeps box_file flash former) air.left air.left_after flash.blocks flash.contents flash.contents_after
+  -- Where nothing is decided and the flash did not fail: all that had been staged of the group that is staged is so still, and the margin has not
+  -- fallen; or the margin is whole, as where the group began anew.
+  pub margin : IsNoDecision result → keeps ≡ true → flash.tells → IsSound flash.blocks flash.contents → (former : Boot)
+      → BootOf flash.blocks flash.contents former → KeepsMargin flash.blocks flash.contents flash.contents_after
+  -- And where the flash failed at a packet, so does all that was stored before that packet.
+  pub faulted : IsErrOf result FlashFault → keeps ≡ true → flash.tells
+      → IsNotBegun air flash ⊎ AsBox keeps box_file flash (λ me. BreaksLasting me air.left air.left_after flash.blocks flash.contents_after)
   -- Where no choice begins in what was taken, the flash is only read.
   pub untouched : flash.tells → (former : Boot) → BootOf flash.blocks flash.contents former
       → (taken rest : List ℕ) → air.left ≡ Some (taken ++ rest) → air.left_after ≡ Some rest

@@ -16,7 +16,7 @@ use Rattle.ssu_route.specs.Windows.{beginnings}
 use Rattle.ssu_answer.specs.declared.verdict.Verdict.{Verdict}
 use Rattle.ssu_answer.specs.declared.verdict.Verdict.TheVariants.{Installed, Nothing, Incomplete, BadModule, Unsettled}
 use Rattle.ssu_loader.specs.Decisions.{IsOpen, Reaches, Whole}
-use Rattle.ssu_loader.specs.Remaining.{StagesStanding}
+use Rattle.ssu_loader.specs.Remaining.{StagesBefore, StagesLast, StagesStanding}
 use Rattle.ssu_loader.specs.Storing.{EndsPrev, HasNoPrev, Stores, StoresBefore}
 use Rattle.ssu_loader.specs.Verdicts.{IsLastSeen, IsReached, IsSeen, IsUndecided, IsVerdict}
 
@@ -97,12 +97,14 @@ ReplayLeaves me left left_after g x y = KeepsBoot g x y ⊎ ((chosen : Chosen) �
 -- The verdict of the packets that were taken, which came there, and x became y. Where the places of a group are staged in the
 -- bank, those of a choice that stands at the end are there, if its group is not one that is kept, and at one too many those of the one before,
 -- where it still stood; once a choice began, what boot took before the current image is gone. Where the stage keeps its places, those of a
--- choice that stands at the end are staged, and of a group with a wrong module none.
+-- choice that stands at the end are staged, and of a group with a wrong module none; where none stands, and at one choice too many, what the last
+-- one had is staged still.
 abbrev pub EndsWith : Bool → Bool → Receiver → Option (List ℕ) → Option (List ℕ) → Geometry → List ℕ → List ℕ → Verdict → Type 0
 EndsWith in_bank keeps me left left_after g x y (Installed chosen) = TakesAndInstalls me left left_after g x y chosen
 EndsWith in_bank keeps me left left_after g x y (Nothing level) =
     HearsToEnd me left left_after
-    (λ heard. IsVerdict me heard (Nothing level) × (in_bank ≡ true → EndsPrev g y me heard)) × KeepsBoot g x y
+    (λ heard. IsVerdict me heard (Nothing level) × (in_bank ≡ true → EndsPrev g y me heard)
+    × (keeps ≡ true → StagesLast me heard g y)) × KeepsBoot g x y
 EndsWith in_bank keeps me left left_after g x y (Incomplete chosen count) =
     HearsToEnd me left left_after
     (λ heard. IsVerdict me heard (Incomplete chosen count) × (in_bank ≡ true → Stores g y me heard)
@@ -112,4 +114,5 @@ EndsWith in_bank keeps me left left_after g x y (BadModule id want found) =
     × (KeepsBoot g x y × (in_bank ≡ true → HasNoPrev g y) × (keeps ≡ true → StagesNone g y))
 EndsWith in_bank keeps me left left_after g x y Unsettled =
     HearsAtPacket me left left_after
-    (λ heard. IsReached me heard Unsettled × (in_bank ≡ true → StoresBefore g y me heard)) (IsOpen me) × KeepsBoot g x y
+    (λ heard. IsReached me heard Unsettled × (in_bank ≡ true → StoresBefore g y me heard)
+    × (keeps ≡ true → StagesBefore me heard g y)) (IsOpen me) × KeepsBoot g x y

@@ -12,6 +12,7 @@ ghost use Rattle.route_tables.specs.Next.{heard_on};
 ghost use Rattle.route_tables.specs.Values.{Receiver};
 ghost use Rattle.ssu_route.specs.declared.change.Change.TheVariants as change;
 ghost use Rattle.ssu_route.specs.Route.{Stands};
+ghost use Rattle.ssu_loader.specs.Lasting.{KeepsMargin, Lasts};
 ghost use Rattle.ssu_loader.specs.Leaving.{GoesOn, IfBadModule, SectionsLeave, UnlessInstalled};
 ghost use Rattle.ssu_loader.specs.Life.{HoldsHeard};
 ghost use Rattle.ssu_loader.specs.Starting.{KnowsKept};
@@ -77,6 +78,19 @@ impl<S: Stage> Collector<S> {
         ensures holds_left { F.tells → (me : Receiver) (heard : List Heard) → Collects S.Stage F.Flash me heard self.old flash.old
             → LeavesOnly F.moment F.left_since flash.old flash.new
             (HoldsHeard (geometry_of self.old.bank) me (heard_on pid section.now ∷ heard) (F.contents flash.old)) }
+        // What a stage that keeps its places had staged stays staged, up to the end that `Lasts` names. At Ok the margin has not fallen, and where the
+        // power goes it falls by one at most.
+        ensures lasts { S.KEEPS ≡ true → F.tells → (me : Receiver) (heard : List Heard) → Collects S.Stage F.Flash me heard self.old flash.old
+            → IfOk result (λ answer. Lasts 0 (geometry_of self.old.bank) me (heard_on pid section.now ∷ heard) heard
+            (F.contents flash.old) (F.contents flash.new)) }
+        ensures lasts_held { S.KEEPS ≡ true → F.tells → (me : Receiver) (heard : List Heard) → Collects S.Stage F.Flash me heard self.old flash.old
+            → Lasts 1 (geometry_of self.old.bank) me (heard_on pid section.now ∷ heard) heard (F.contents flash.old) (F.contents flash.new) }
+        ensures lasts_left { S.KEEPS ≡ true → F.tells → (me : Receiver) (heard : List Heard) → Collects S.Stage F.Flash me heard self.old flash.old
+            → LeavesOnly F.moment F.left_since flash.old flash.new
+            (Lasts 1 (geometry_of self.old.bank) me (heard_on pid section.now ∷ heard) heard (F.contents flash.old)) }
+        // At Ok what is staged was, with at least this margin, or its margin is whole.
+        ensures margin { S.KEEPS ≡ true → F.tells → (me : Receiver) (heard : List Heard) → Collects S.Stage F.Flash me heard self.old flash.old
+            → IfOk result (λ answer. IfNone answer (KeepsMargin (geometry_of self.old.bank) (F.contents flash.old) (F.contents flash.new))) }
         // Where a module is wrong a choice had begun, and nothing of the group stays staged.
         ensures no_prev { S.IN_BANK ≡ true → F.tells → IfOk result (λ answer. IfBadModule answer
             (HasNoPrev (geometry_of self.old.bank) (F.contents flash.new))) }
@@ -131,6 +145,22 @@ impl<S: Stage> Collector<S> {
             → IsAhead S.Stage F.Flash me item heard change.Chosen self.old flash.old
             → LeavesOnly F.moment F.left_since flash.old flash.new
             (HoldsHeard (geometry_of self.old.bank) me (item ∷ heard) (F.contents flash.old)) }
+        // What a stage that keeps its places had staged stays staged, up to the end that `Lasts` names. At Ok the margin has not fallen, and where the
+        // power goes it falls by one at most.
+        ensures lasts { S.KEEPS ≡ true → F.tells → (me : Receiver) (item : Heard) (heard : List Heard)
+            → IsAhead S.Stage F.Flash me item heard change.Chosen self.old flash.old
+            → IfOk result (λ answer. Lasts 0 (geometry_of self.old.bank) me (item ∷ heard) heard (F.contents flash.old) (F.contents flash.new)) }
+        ensures lasts_held { S.KEEPS ≡ true → F.tells → (me : Receiver) (item : Heard) (heard : List Heard)
+            → IsAhead S.Stage F.Flash me item heard change.Chosen self.old flash.old
+            → Lasts 1 (geometry_of self.old.bank) me (item ∷ heard) heard (F.contents flash.old) (F.contents flash.new) }
+        ensures lasts_left { S.KEEPS ≡ true → F.tells → (me : Receiver) (item : Heard) (heard : List Heard)
+            → IsAhead S.Stage F.Flash me item heard change.Chosen self.old flash.old
+            → LeavesOnly F.moment F.left_since flash.old flash.new
+            (Lasts 1 (geometry_of self.old.bank) me (item ∷ heard) heard (F.contents flash.old)) }
+        // At Ok what is staged was, with at least this margin, or its margin is whole.
+        ensures margin { S.KEEPS ≡ true → F.tells → (me : Receiver) (item : Heard) (heard : List Heard)
+            → IsAhead S.Stage F.Flash me item heard change.Chosen self.old flash.old
+            → IfOk result (λ answer. IfNone answer (KeepsMargin (geometry_of self.old.bank) (F.contents flash.old) (F.contents flash.new))) }
         // Where a module is wrong a choice had begun, and nothing of the group stays staged.
         ensures no_prev { S.IN_BANK ≡ true → F.tells → IfOk result (λ answer. IfBadModule answer
             (HasNoPrev (geometry_of self.old.bank) (F.contents flash.new))) }
@@ -191,6 +221,23 @@ impl<S: Stage> Collector<S> {
             → IsAhead S.Stage F.Flash me (heard_on pid section.now) heard change.Same self.old flash.old
             → LeavesOnly F.moment F.left_since flash.old flash.new
             (HoldsHeard (geometry_of self.old.bank) me (heard_on pid section.now ∷ heard) (F.contents flash.old)) }
+        // What a stage that keeps its places had staged stays staged, up to the end that `Lasts` names. At Ok the margin has not fallen, and where the
+        // power goes it falls by one at most.
+        ensures lasts { S.KEEPS ≡ true → F.tells → (me : Receiver) (heard : List Heard)
+            → IsAhead S.Stage F.Flash me (heard_on pid section.now) heard change.Same self.old flash.old
+            → IfOk result (λ answer. Lasts 0 (geometry_of self.old.bank) me (heard_on pid section.now ∷ heard) heard
+            (F.contents flash.old) (F.contents flash.new)) }
+        ensures lasts_held { S.KEEPS ≡ true → F.tells → (me : Receiver) (heard : List Heard)
+            → IsAhead S.Stage F.Flash me (heard_on pid section.now) heard change.Same self.old flash.old
+            → Lasts 1 (geometry_of self.old.bank) me (heard_on pid section.now ∷ heard) heard (F.contents flash.old) (F.contents flash.new) }
+        ensures lasts_left { S.KEEPS ≡ true → F.tells → (me : Receiver) (heard : List Heard)
+            → IsAhead S.Stage F.Flash me (heard_on pid section.now) heard change.Same self.old flash.old
+            → LeavesOnly F.moment F.left_since flash.old flash.new
+            (Lasts 1 (geometry_of self.old.bank) me (heard_on pid section.now ∷ heard) heard (F.contents flash.old)) }
+        // At Ok what is staged was, with at least this margin, or its margin is whole.
+        ensures margin { S.KEEPS ≡ true → F.tells → (me : Receiver) (heard : List Heard)
+            → IsAhead S.Stage F.Flash me (heard_on pid section.now) heard change.Same self.old flash.old
+            → IfOk result (λ answer. IfNone answer (KeepsMargin (geometry_of self.old.bank) (F.contents flash.old) (F.contents flash.new))) }
         // Where a module is wrong a choice had begun, and nothing of the group stays staged.
         ensures no_prev { S.IN_BANK ≡ true → F.tells → IfOk result (λ answer. IfBadModule answer
             (HasNoPrev (geometry_of self.old.bank) (F.contents flash.new))) }

@@ -11,6 +11,7 @@ ghost use Rattle.route_tables.specs.Values.{Receiver};
 ghost use Rattle.ssu_route.specs.Queries.{after_all};
 ghost use Rattle.ssu_loader.specs.Collecting.{BeginsTooMany, Collects, IsUsable, StopsBefore};
 ghost use Rattle.ssu_route.specs.Windows.{beginnings};
+ghost use Rattle.ssu_loader.specs.Lasting.{KeepsMargin, Lasts};
 ghost use Rattle.ssu_loader.specs.Leaving.{GoesOn, IfBadModule, IfUnsettled, SectionsLeave, UnlessInstalled};
 ghost use Rattle.ssu_loader.specs.Life.{HoldsHeard};
 ghost use Rattle.ssu_loader.specs.Starting.{KnowsKept};
@@ -57,6 +58,19 @@ pub(crate) fn hear_each<S: Stage, F: Flash>(
     ensures holds_left { F.tells → (me : Receiver) (heard : List Heard) → Collects S.Stage F.Flash me heard collector.old flash.old
         → LeavesOnly F.moment F.left_since flash.old flash.new
         (HoldsHeard (geometry_of collector.old.bank) me (after_all pid each.now heard) (F.contents flash.old)) }
+    // What a stage that keeps its places had staged stays staged, up to the end that `Lasts` names. At Ok the margin has not fallen, and where the
+    // power goes it falls by one at most.
+    ensures lasts { S.KEEPS ≡ true → F.tells → (me : Receiver) (heard : List Heard) → Collects S.Stage F.Flash me heard collector.old flash.old
+        → IfOk result (λ answer. Lasts 0 (geometry_of collector.old.bank) me (after_all pid each.now heard) heard
+        (F.contents flash.old) (F.contents flash.new)) }
+    ensures lasts_held { S.KEEPS ≡ true → F.tells → (me : Receiver) (heard : List Heard) → Collects S.Stage F.Flash me heard collector.old flash.old
+        → Lasts 1 (geometry_of collector.old.bank) me (after_all pid each.now heard) heard (F.contents flash.old) (F.contents flash.new) }
+    ensures lasts_left { S.KEEPS ≡ true → F.tells → (me : Receiver) (heard : List Heard) → Collects S.Stage F.Flash me heard collector.old flash.old
+        → LeavesOnly F.moment F.left_since flash.old flash.new
+        (Lasts 1 (geometry_of collector.old.bank) me (after_all pid each.now heard) heard (F.contents flash.old)) }
+    // At Ok what is staged was, with at least this margin, or its margin is whole.
+    ensures margin { S.KEEPS ≡ true → F.tells → (me : Receiver) (heard : List Heard) → Collects S.Stage F.Flash me heard collector.old flash.old
+        → IfOk result (λ answer. IfNone answer (KeepsMargin (geometry_of collector.old.bank) (F.contents flash.old) (F.contents flash.new))) }
     // Where a module is wrong a choice had begun, and nothing of the group stays staged.
     ensures no_prev { S.IN_BANK ≡ true → F.tells → IfOk result (λ answer. IfBadModule answer
         (HasNoPrev (geometry_of collector.old.bank) (F.contents flash.new))) }

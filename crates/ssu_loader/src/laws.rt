@@ -1,9 +1,12 @@
 //! What a client may build on, each law as the contract of a function that does nothing.
 
-ghost use Rattle.std.specs.Prelude.{◌≡◌, ◌∷◌, ◌++◌, IsSome, List, Some, true, ℕ};
+ghost use Rattle.std.specs.Prelude.{◌≡◌, ◌∷◌, ◌++◌, IsSome, List, None, Some, true, ℕ};
+ghost use Rattle.bank_kept.specs.Contents.{StagesPlace};
 ghost use Rattle.flash_bank.specs.Bank.{Fits, geometry_of};
 ghost use Rattle.flash_bank.specs.Leaving.{KeepsBoot};
+ghost use Rattle.flash_bank.specs.Sound.{Boot, BootOf};
 ghost use Rattle.flash_bank.specs.declared.bank.Bank.{Bank};
+ghost use Rattle.flash_layout.specs.Layout.{Geometry, IsInLimits};
 ghost use Rattle.flash_stage.specs.Leaving.{SameBank};
 ghost use Rattle.ts_section.specs.Events.{Heard};
 ghost use Rattle.route_tables.specs.Values.{Receiver};
@@ -16,7 +19,7 @@ ghost use Rattle.ssu_route.specs.declared.change.Change.TheVariants as change;
 ghost use Rattle.ssu_route.specs.declared.choice.Choice.{Choice};
 ghost use Rattle.ssu_loader.specs.Decisions.{Decision, IsStanding, Reaches};
 ghost use Rattle.ssu_loader.specs.Leaving.{SectionsLeave};
-ghost use Rattle.ssu_loader.specs.Opening.{KeepsNothing, fills_at, is_within, kept, last_message, places_in};
+ghost use Rattle.ssu_loader.specs.Opening.{KeepsNothing, earlier_windows, fills_at, is_within, kept, last_message, opening_of, places_in};
 ghost use Rattle.ssu_loader.specs.Replays.{heard_in};
 
 /// At most one thing is decided by the sections that a box heard, and it stays decided.
@@ -59,6 +62,21 @@ pub fn places_are_kept()
 pub fn window_counts_alone()
     ensures { (me : Receiver) (heard : List Heard) (choice : Choice) → KeepsNothing me → IsStanding me heard choice
         → fills_at me heard choice.plan ≡ filling choice.plan (window me heard) }
+{}
+
+/// Where the flash had no group staged at the opening, the choice that stands has the places that the windows of its message fill, since the
+/// first of them after another message, and no other: so sections that were heard carry its group alone.
+pub fn windows_count_alone()
+    ensures { (me : Receiver) (heard : List Heard) (choice : Choice) → me.opening.message ≡ None → IsStanding me heard choice
+        → fills_at me heard choice.plan ≡ filling choice.plan (window me heard ++ earlier_windows me heard) }
+{}
+
+/// Where the first choice of a replay has the message of the group that the flash had staged at the opening, the places of that group count
+/// as filled, with their bytes, from the section at which the choice begins and while it stands. The stage is one that keeps its places.
+pub fn first_choice_has_what_is_staged()
+    ensures { (g : Geometry) (x : List ℕ) (b : Boot) → IsInLimits g → BootOf g x b → (me : Receiver) → me.opening ≡ opening_of true g b.head x
+        → (heard : List Heard) (message : List ℕ) → beginnings me heard ≡ 1 → level_7 me heard ≡ Some message
+        → (plan : GroupPlan) (n : ℕ) (bytes : List ℕ) → StagesPlace g x message n bytes → fills_at me heard plan n ≡ Some bytes }
 {}
 
 /// What one packet may leave after calls of the stage is what they may leave together, also where the bank is as it was: so

@@ -4,14 +4,16 @@ ghost use Rattle.std.specs.Prelude.{◌⊎◌, ◌≡◌, ◌++◌, Bool, Contai
 ghost use Rattle.bank_kept.specs.Contents.{HoldsPlace, StagesGroup, StagesPlace};
 ghost use Rattle.bank_kept.specs.Leaving.{HoldsNoMore};
 ghost use Rattle.dsmcc_msg.specs.Control.{DiiFields};
+ghost use Rattle.flash_bank.specs.Format.{Formats};
 ghost use Rattle.flash_bank.specs.Leaving.{Installs, KeepsBoot};
 ghost use Rattle.flash_bank.specs.Sound.{Boot, BootOf};
+ghost use Rattle.flash_bank.specs.declared.record.Record.{Record};
 ghost use Rattle.flash_layout.specs.Layout.{Geometry, IsInLimits};
 ghost use Rattle.route_tables.specs.Values.{Receiver};
 ghost use Rattle.ssu_answer.specs.declared.chosen.Chosen.{Chosen};
 ghost use Rattle.ssu_group.specs.Carried.{brings};
 ghost use Rattle.ssu_loader.specs.Decisions.{IsStanding, Reaches, Whole};
-ghost use Rattle.ssu_loader.specs.Life.{ComesOfLife, HeardInLife, HeardUnder, HoldsHeard, IsLife, Replay, StepsTo, WasStaged};
+ghost use Rattle.ssu_loader.specs.Life.{ComesOfLife, HeardInLife, HeardUnder, HoldsHeard, IsBeginning, IsLife, Replay, StepsTo, WasStaged};
 ghost use Rattle.ssu_loader.specs.Opening.{fills_at, opening_of};
 ghost use Rattle.ssu_loader.specs.Replays.{record_after};
 ghost use Rattle.ssu_route.specs.Windows.{standing, window};
@@ -20,10 +22,10 @@ ghost use Rattle.ts_section.specs.Events.{Heard};
 
 /// After every life boot takes the image with which it began, or one each of whose blocks was heard in some replay of the life under one
 /// message of a DII, whose modules have the CRCs of their descriptors, and whose group matched the box and was admitted in the replay that
-/// installed it. Between two replays the power may go at any moment.
+/// installed it. Within each replay the power may go at any moment.
 pub fn life_holds()
     ensures boot { (g : Geometry) (x y : List ℕ) (replays : List Replay) (b : Boot) → IsInLimits g → IsLife g x replays y → BootOf g y b
-        → BootOf g x b ⊎ ComesOfLife g replays b.image }
+        → BootOf g x b ⊎ ComesOfLife g replays b }
     // And so each place that the flash holds then was heard under its message in some replay.
     ensures held { (g : Geometry) (x y : List ℕ) (replays : List Replay) → IsLife g x replays y → (message : List ℕ) (n : ℕ) (bytes : List ℕ)
         → HoldsPlace g y message n bytes → HeardInLife g replays message n bytes }
@@ -75,4 +77,9 @@ pub fn steps_go_on()
         → StepsTo g me heard former y z → StepsTo g me heard former x z }
     ensures more { (g : Geometry) (me : Receiver) (later heard : List Heard) (former : Boot) (x y : List ℕ) → StepsTo g me heard former x y
         → StepsTo g me (later ++ heard) former x y }
+{}
+
+/// What `format` leaves at Ok is what a life begins with.
+pub fn formatted_flash_begins_a_life()
+    ensures { (g : Geometry) (head : Record) (image x y : List ℕ) → IsInLimits g → Formats g head image x y → IsBeginning g y }
 {}

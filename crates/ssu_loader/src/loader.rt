@@ -19,6 +19,7 @@ ghost use Rattle.ssu_loader.specs.Decisions.{Reaches, Whole};
 ghost use Rattle.ssu_loader.specs.declared.fault.LoadFault.TheVariants as load_fault;
 ghost use Rattle.ssu_answer.specs.declared.verdict.Verdict.TheVariants as verdict;
 ghost use Rattle.ssu_loader.specs.Faults.{IsOfOpening, WhereInLimits, WhereNotWorn, WhereSound};
+ghost use Rattle.ssu_loader.specs.Lasting.{KeepsMargin, Lasts};
 ghost use Rattle.ssu_loader.specs.Leaving.{GoesOn, IfBadModule, IfUnsettled, SectionsLeave, UnlessInstalled};
 ghost use Rattle.ssu_loader.specs.Remaining.{StagesStanding};
 ghost use Rattle.ssu_loader.specs.Life.{HoldsHeard};
@@ -133,6 +134,19 @@ impl<S: Stage> Loader<S> {
         ensures holds_left { F.tells → (me : Receiver) (ps : List (List ℕ)) → Follows S.Stage F.Flash me ps self.old flash.old
             → LeavesOnly F.moment F.left_since flash.old flash.new
             (HoldsHeard (geometry_of (bank_of self.old)) me (heard_by me (packet.now ∷ ps)) (F.contents flash.old)) }
+        // What a stage that keeps its places had staged stays staged, up to the end that `Lasts` names. At Ok the margin has not fallen, and where the
+        // power goes it falls by one at most.
+        ensures lasts { S.KEEPS ≡ true → F.tells → (me : Receiver) (ps : List (List ℕ)) → Follows S.Stage F.Flash me ps self.old flash.old
+            → IfOk result (λ answer. Lasts 0 (geometry_of (bank_of self.old)) me (heard_by me (packet.now ∷ ps)) (heard_by me ps)
+            (F.contents flash.old) (F.contents flash.new)) }
+        ensures lasts_held { S.KEEPS ≡ true → F.tells → (me : Receiver) (ps : List (List ℕ)) → Follows S.Stage F.Flash me ps self.old flash.old
+            → Lasts 1 (geometry_of (bank_of self.old)) me (heard_by me (packet.now ∷ ps)) (heard_by me ps) (F.contents flash.old) (F.contents flash.new) }
+        ensures lasts_left { S.KEEPS ≡ true → F.tells → (me : Receiver) (ps : List (List ℕ)) → Follows S.Stage F.Flash me ps self.old flash.old
+            → LeavesOnly F.moment F.left_since flash.old flash.new
+            (Lasts 1 (geometry_of (bank_of self.old)) me (heard_by me (packet.now ∷ ps)) (heard_by me ps) (F.contents flash.old)) }
+        // At Ok what is staged was, with at least this margin, or its margin is whole.
+        ensures margin { S.KEEPS ≡ true → F.tells → (me : Receiver) (ps : List (List ℕ)) → Follows S.Stage F.Flash me ps self.old flash.old
+            → IfOk result (λ answer. IfNone answer (KeepsMargin (geometry_of (bank_of self.old)) (F.contents flash.old) (F.contents flash.new))) }
         // Where a module is wrong a choice had begun, and nothing of the group stays staged.
         ensures no_prev { S.IN_BANK ≡ true → F.tells → IfOk result (λ answer. IfBadModule answer
             (HasNoPrev (geometry_of (bank_of self.old)) (F.contents flash.new))) }

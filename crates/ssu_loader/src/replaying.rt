@@ -1,6 +1,6 @@
 //! A whole replay.
 
-ghost use Rattle.std.specs.Prelude.{◌≡◌, ◌⊎◌, ◌≤◌, ◌++◌, [], ℕ, List, Some, IfErr, IfOk, IsErrOf};
+ghost use Rattle.std.specs.Prelude.{◌≡◌, ◌⊎◌, ◌≤◌, ◌++◌, [], ℕ, List, Some, IfErr, IfOk, IsErrOf, true};
 ghost use Rattle.flash_dev.specs.Moments.{LeavesOnly};
 ghost use Rattle.flash_bank.specs.Bank.{geometry_of};
 ghost use Rattle.flash_bank.specs.Leaving.{KeepsBoot};
@@ -10,14 +10,16 @@ ghost use Rattle.ssu_io.specs.Seen.{source_seen};
 ghost use Rattle.route_tables.specs.Values.{Receiver};
 ghost use Rattle.ts_input.specs.Packets.{IsOneMore, IsWithin};
 ghost use Rattle.ssu_loader.specs.Faults.{IsOfTaking};
+ghost use Rattle.ssu_loader.specs.Lasting.{BreaksLasting, IsNoDecision, KeepsMargin, TakesLasting};
 ghost use Rattle.ssu_loader.specs.Loading.{Follows, IsUsable, bank_of};
+ghost use Rattle.ssu_loader.specs.Remaining.{StagesLast};
 ghost use Rattle.ssu_loader.specs.Replaying.{ReplaysBox};
 ghost use Rattle.flash_bank.specs.Sound.{Boot, BootOf, IsSound};
 ghost use Rattle.flash_layout.specs.Layout.{blocks_of};
 ghost use Rattle.ssu_loader.specs.Life.{LeavesStep};
 ghost use Rattle.ssu_loader.specs.Starting.{KnowsKept};
 ghost use Rattle.ssu_loader.specs.Stepping.{TakesStep};
-ghost use Rattle.ssu_loader.specs.Replays.{BeginsNone, BreaksAtPacket, ComesSeen, EndsWith, ReachesNone, ReplayLeaves};
+ghost use Rattle.ssu_loader.specs.Replays.{BeginsNone, BreaksAtPacket, ComesSeen, EndsWith, HearsIn, ReachesNone, ReplayLeaves};
 
 use crate::fault::LoadFault;
 use crate::loader::Loader;
@@ -74,10 +76,29 @@ fn take_packets<A: Source, F: Flash, S: Stage>(
     ensures steps_left { F.tells → (me : Receiver) → Follows S.Stage F.Flash me [] loader.old flash.old
         → LeavesOnly F.moment F.left_since flash.old flash.new
         (TakesStep me (A.left air.old) (A.left air.new) (geometry_of (bank_of loader.old)) (F.contents flash.old)) }
+    ensures lasts { S.KEEPS ≡ true → F.tells → (me : Receiver) → Follows S.Stage F.Flash me [] loader.old flash.old
+        → TakesLasting 1 me (A.left air.old) (A.left air.new) (geometry_of (bank_of loader.old)) (F.contents flash.old) (F.contents flash.new) }
+    ensures lasts_left { S.KEEPS ≡ true → F.tells → (me : Receiver) → Follows S.Stage F.Flash me [] loader.old flash.old
+        → LeavesOnly F.moment F.left_since flash.old flash.new
+        (TakesLasting 1 me (A.left air.old) (A.left air.new) (geometry_of (bank_of loader.old)) (F.contents flash.old)) }
+    ensures lasts_unfailed { S.KEEPS ≡ true → F.tells → (me : Receiver) → Follows S.Stage F.Flash me [] loader.old flash.old
+        → (IsErrOf result LoadFault.FlashFault → ⊥)
+        → TakesLasting 0 me (A.left air.old) (A.left air.new) (geometry_of (bank_of loader.old)) (F.contents flash.old) (F.contents flash.new) }
+    ensures margin { S.KEEPS ≡ true → F.tells → (me : Receiver) → Follows S.Stage F.Flash me [] loader.old flash.old → IsNoDecision result
+        → KeepsMargin (geometry_of (bank_of loader.old)) (F.contents flash.old) (F.contents flash.new) }
+    ensures fault_lasts { S.KEEPS ≡ true → F.tells → (me : Receiver) → Follows S.Stage F.Flash me [] loader.old flash.old
+        → IsErrOf result LoadFault.FlashFault
+        → BreaksLasting me (A.left air.old) (A.left air.new) (geometry_of (bank_of loader.old)) (F.contents flash.new) }
     ensures read_fault { (me : Receiver) → Follows S.Stage F.Flash me [] loader.old flash.old
         → IsErrOf result LoadFault.ReadFault → ReachesNone (KnowsKept S.Stage F.Flash) me (A.left air.old) (A.left air.new) IsWithin }
     ensures too_long { (me : Receiver) → Follows S.Stage F.Flash me [] loader.old flash.old
         → IsErrOf result LoadFault.TooLong → ReachesNone (KnowsKept S.Stage F.Flash) me (A.left air.old) (A.left air.new) IsOneMore }
+    ensures read_staged { S.KEEPS ≡ true → F.tells → (me : Receiver) → Follows S.Stage F.Flash me [] loader.old flash.old
+        → IsErrOf result LoadFault.ReadFault → HearsIn me (A.left air.old) (A.left air.new) IsWithin
+        (λ heard. StagesLast me heard (geometry_of (bank_of loader.old)) (F.contents flash.new)) }
+    ensures long_staged { S.KEEPS ≡ true → F.tells → (me : Receiver) → Follows S.Stage F.Flash me [] loader.old flash.old
+        → IsErrOf result LoadFault.TooLong → HearsIn me (A.left air.old) (A.left air.new) IsOneMore
+        (λ heard. StagesLast me heard (geometry_of (bank_of loader.old)) (F.contents flash.new)) }
     ensures kept { F.tells → IsErrOf result LoadFault.ReadFault ⊎ IsErrOf result LoadFault.TooLong
         → KeepsBoot (geometry_of (bank_of loader.old)) (F.contents flash.old) (F.contents flash.new) }
     ensures flash_fault { (me : Receiver) → Follows S.Stage F.Flash me [] loader.old flash.old

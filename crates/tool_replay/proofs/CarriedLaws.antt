@@ -3,12 +3,13 @@ use Rattle.std.proofs.Common.{◌≡◌, ℕ, List, Option, Some, None, Ok, Err,
 use Rattle.box_file.specs.BoxText.{box_of}
 use Rattle.box_file.specs.declared.file.BoxFile.{BoxFile}
 use Rattle.ssu_loader.specs.declared.fault.LoadFault.{LoadFault}
-use Rattle.ssu_loader.specs.declared.fault.LoadFault.TheVariants.{Memory}
+use Rattle.ssu_loader.specs.declared.fault.LoadFault.TheVariants.{FlashFault, Memory}
 use Rattle.ssu_answer.specs.declared.verdict.Verdict.{Verdict}
+use Rattle.ssu_answer.specs.declared.verdict.Verdict.TheVariants as verdict
 use Rattle.ssu_io.specs.Files.{File}
-use Rattle.ssu_status.specs.Status.{OnBoxRefused, OnShelfFault}
+use Rattle.ssu_status.specs.Status.{OnBoxRefused, OnShelfFault, status_of}
 use Rattle.ssu_status.specs.declared.status.Status.{Status}
-use Rattle.ssu_status.specs.declared.status.Status.TheVariants.{Absent, BoxRefused, NoMemory, ShelfFault}
+use Rattle.ssu_status.specs.declared.status.Status.TheVariants.{Absent, BoxRefused, NoMemory, ShelfFault, FlashFault as Failed}
 use Rattle.tool_box.specs.Boxes.{IsBoxRefusal, RefusesBox, TellsBox, box_name}
 use Rattle.tool_box.specs.Fetching.{TellsAbsence}
 use Rattle.tool_replay.specs.Answers.{HoldsBox, status_of_fault}
@@ -49,3 +50,20 @@ of_box held a b P holds tells p = subst P (sym (same_box held a b holds tells)) 
 
 pub not_memory : (e : LoadFault) → (status_of_fault e ≡ NoMemory → ⊥) → IsErrOf {T = Verdict} (Err e) Memory → ⊥
 not_memory e other is = let same : e ≡ Memory = cc in other (ap status_of_fault same)
+
+-- the status of a fault of the flash
+pub flash_status : (e : LoadFault) → IsErrOf {T = Verdict} (Err e) FlashFault → status_of_fault e ≡ Failed
+flash_status e is = let same : e ≡ FlashFault = cc in ap status_of_fault same
+
+pub fault_of_flash : (e : LoadFault) → status_of_fault e ≡ Failed → IsErrOf {T = Verdict} (Err e) FlashFault
+fault_of_flash FlashFault is = refl
+fault_of_flash Memory is = absurd cc
+fault_of_flash other is = absurd cc
+
+-- no verdict is one
+pub no_flash_fault : (v : Verdict) → status_of v ≡ Failed → ⊥
+no_flash_fault (verdict.Installed chosen) is = cc is
+no_flash_fault (verdict.Nothing level) is = cc is
+no_flash_fault (verdict.Incomplete chosen missing) is = cc is
+no_flash_fault (verdict.BadModule id want found) is = cc is
+no_flash_fault verdict.Unsettled is = cc is

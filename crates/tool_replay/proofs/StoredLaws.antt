@@ -1,5 +1,5 @@
 -- What `replay` says of the places that are stored and staged, and of a group with a wrong module.
-use Rattle.std.proofs.Common.{◌≡◌, ◌++◌, ℕ, Bool, true, List, Some, subst, sym}
+use Rattle.std.proofs.Common.{◌≡◌, ◌++◌, ℕ, Bool, true, List, Some, Ok, Err, subst, sym}
 use Rattle.box_file.specs.declared.file.BoxFile.{BoxFile}
 use Rattle.flash_bank.specs.Seen.{FlashSeen}
 use Rattle.flash_bank.specs.Sound.{Boot, BootOf}
@@ -10,6 +10,7 @@ use Rattle.ssu_answer.specs.declared.chosen.Chosen.{Chosen}
 use Rattle.ssu_io.specs.Bytes.{Takes}
 use Rattle.ssu_io.specs.Seen.{SourceSeen}
 use Rattle.ssu_loader.proofs.FrontLaws.{taken_is}
+use Rattle.ssu_loader.specs.Lasting.{IsNoDecision}
 use Rattle.ssu_loader.specs.Opening.{opening_of}
 use Rattle.ssu_loader.specs.Remaining.{StagesStanding}
 use Rattle.ssu_loader.specs.Replaying.{Ends, receiver_under}
@@ -21,9 +22,9 @@ use Rattle.ssu_answer.specs.declared.verdict.Verdict.{Verdict}
 use Rattle.ssu_answer.specs.declared.verdict.Verdict.TheVariants as verdict
 use Rattle.ssu_status.specs.Status.{OnIncomplete, status_of}
 use Rattle.ssu_status.specs.declared.status.Status.{Status}
-use Rattle.ssu_status.specs.declared.status.Status.TheVariants.{BadModule, Incomplete}
+use Rattle.ssu_status.specs.declared.status.Status.TheVariants.{BadModule, Incomplete, Nothing, ReadFault, TooLong}
 use Rattle.tool_box.specs.Boxes.{IsBoxRefusal}
-use Rattle.tool_replay.specs.Answers.{OnBadModule, status_of_fault}
+use Rattle.tool_replay.specs.Answers.{OnBadModule, OnNoDecision, status_of_fault}
 
 -- ---- answers that tell of no choice
 
@@ -52,6 +53,29 @@ fault_stages load_fault.Worn P = tt
 fault_stages load_fault.Memory P = tt
 fault_stages load_fault.ReadFault P = tt
 fault_stages load_fault.TooLong P = tt
+
+pub refusal_margin : (s : Status) (P : Type 0) → IsBoxRefusal s → OnNoDecision s P
+refusal_margin (Nothing level) P of = absurd of
+refusal_margin (Incomplete chosen missing) P of = absurd of
+refusal_margin ReadFault P of = absurd of
+refusal_margin TooLong P of = absurd of
+refusal_margin other P of = tt
+
+pub fault_margin : (e : LoadFault) (P : Type 0) → (IsNoDecision (Err e) → P) → OnNoDecision (status_of_fault e) P
+fault_margin load_fault.Geometry P p = tt
+fault_margin load_fault.FlashFault P p = tt
+fault_margin load_fault.Foreign P p = tt
+fault_margin load_fault.Worn P p = tt
+fault_margin load_fault.Memory P p = tt
+fault_margin load_fault.ReadFault P p = p tt
+fault_margin load_fault.TooLong P p = p tt
+
+pub verdict_margin : (v : Verdict) (P : Type 0) → (IsNoDecision (Ok v) → P) → OnNoDecision (status_of v) P
+verdict_margin (verdict.Installed chosen) P p = tt
+verdict_margin (verdict.Nothing level) P p = p tt
+verdict_margin (verdict.Incomplete chosen missing) P p = p tt
+verdict_margin (verdict.BadModule id want found) P p = tt
+verdict_margin verdict.Unsettled P p = tt
 
 -- ---- a verdict
 

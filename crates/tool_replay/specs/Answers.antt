@@ -10,7 +10,9 @@ use Rattle.ssu_io.specs.Faults.{Rose}
 use Rattle.ssu_io.specs.Files.{File}
 use Rattle.ssu_io.specs.Seen.{ShelfSeen, SinkSeen, SourceSeen}
 use Rattle.ssu_line.specs.Lines.{verdict_line}
-use Rattle.ssu_loader.specs.Replaying.{Ends, Fails, IsNotBegun, receiver_at}
+use Rattle.ssu_loader.specs.Lasting.{BreaksLasting, TakesLasting}
+use Rattle.ssu_loader.specs.Life.{LeavesStep}
+use Rattle.ssu_loader.specs.Replaying.{AsBox, Ends, Fails, IsNotBegun, receiver_at}
 use Rattle.ssu_loader.specs.Replays.{TakesAndInstalls}
 use Rattle.ssu_loader.specs.declared.fault.LoadFault.{LoadFault}
 use Rattle.ssu_loader.specs.declared.fault.LoadFault.TheVariants as load_fault
@@ -79,6 +81,14 @@ abbrev pub OnBadModule : Status → Type 0 → Type 0
 OnBadModule (BadModule id want found) fact = fact
 OnBadModule other fact = Unit {0}
 
+-- the fact where the answer is no decision, and the flash did not fail
+abbrev pub OnNoDecision : Status → Type 0 → Type 0
+OnNoDecision (Nothing level) fact = fact
+OnNoDecision (Incomplete chosen missing) fact = fact
+OnNoDecision ReadFault fact = fact
+OnNoDecision TooLong fact = fact
+OnNoDecision other fact = Unit {0}
+
 -- the shelf tells its files, and its box file tells of this box
 abbrev pub HoldsBox : Option (List File) → BoxFile → Type 0
 HoldsBox (Some files) box_file = TellsBox (Some files) box_file
@@ -91,6 +101,26 @@ pub record InstallsForBox (keeps : Bool) (shelf : ShelfSeen) (air : SourceSeen) 
   pub told : TellsBox shelf.held box_file
   pub chosen : Chosen
   pub installs : TakesAndInstalls (receiver_at keeps box_file flash former) air.left air.left_after flash.blocks flash.contents left chosen
+
+-- For the box that the shelf told, a replay of the packets of the bytes that were taken may leave this, as a step of a life.
+pub record StepsForBox (keeps : Bool) (shelf : ShelfSeen) (air : SourceSeen) (flash : FlashSeen) (former : Boot) (left : List ℕ) : Type 0 where
+  pub box_file : BoxFile
+  pub told : TellsBox shelf.held box_file
+  pub step : LeavesStep box_file keeps air.left air.left_after flash.blocks former flash.contents left
+
+-- For the box that the shelf told, a replay of the packets of the bytes that were taken may leave this: what was staged is, up to the end that
+-- `Lasts` names, and the margin has fallen by n at most.
+pub record LastsForBox (n : ℕ) (keeps : Bool) (shelf : ShelfSeen) (air : SourceSeen) (flash : FlashSeen) (former : Boot) (left : List ℕ)
+    : Type 0 where
+  pub box_file : BoxFile
+  pub told : TellsBox shelf.held box_file
+  pub takes : TakesLasting n (receiver_at keeps box_file flash former) air.left air.left_after flash.blocks flash.contents left
+
+-- For the box that the shelf told, the flash failed at a packet: what was stored before it is, up to the end that `Lasts` names.
+pub record BreaksForBox (keeps : Bool) (shelf : ShelfSeen) (air : SourceSeen) (flash : FlashSeen) : Type 0 where
+  pub box_file : BoxFile
+  pub told : TellsBox shelf.held box_file
+  pub breaks : AsBox keeps box_file flash (λ me. BreaksLasting me air.left air.left_after flash.blocks flash.contents_after)
 
 -- This holds of the box that the shelf told, with this flash, and of the bytes that were taken, where shelf, flash and source tell them.
 abbrev pub ForTaken : Bool → ShelfSeen → SourceSeen → FlashSeen → (Receiver → List ℕ → Type 0) → Type 0

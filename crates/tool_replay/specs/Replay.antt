@@ -7,6 +7,7 @@ use Rattle.flash_bank.specs.Sound.{Boot, BootOf, IsSound, IsWorn}
 use Rattle.flash_stage.specs.Keeping.{StagesNone}
 use Rattle.ssu_answer.specs.declared.chosen.Chosen.{Chosen}
 use Rattle.ssu_io.specs.Seen.{ShelfSeen, SinkSeen, SourceSeen}
+use Rattle.ssu_loader.specs.Lasting.{KeepsMargin}
 use Rattle.ssu_loader.specs.Remaining.{StagesStanding}
 use Rattle.ssu_loader.specs.Replaying.{AtAnyMoment, IsNotBegun, IsReady, receiver_at}
 use Rattle.ssu_loader.specs.Replays.{BeginsNone, CarriesFirst, heard_in, record_after}
@@ -14,11 +15,11 @@ use Rattle.ssu_loader.specs.Storing.{Stores}
 use Rattle.ssu_status.specs.Answers.{IsFault}
 use Rattle.ssu_status.specs.Status.{OnIncomplete}
 use Rattle.ssu_status.specs.declared.status.Status.{Status}
-use Rattle.ssu_status.specs.declared.status.Status.TheVariants.{Installed, NoMemory}
+use Rattle.ssu_status.specs.declared.status.Status.TheVariants.{FlashFault, Installed, NoMemory}
 use Rattle.tool_box.specs.Boxes.{box_name}
 use Rattle.tool_box.specs.Fetching.{HasNone, SaysAbsent}
 use Rattle.tool_box.specs.Shelves.{ReadsShelf}
-use Rattle.tool_replay.specs.Answers.{ForTaken, HoldsBox, InstallsForBox, NoneFailed, OnBadModule, Says}
+use Rattle.tool_replay.specs.Answers.{BreaksForBox, ForTaken, HoldsBox, InstallsForBox, LastsForBox, NoneFailed, OnBadModule, OnNoDecision, Says, StepsForBox}
 use Rattle.ts_input.specs.Packets.{IsWithin}
 
 -- What is said of contents holds of a flash that tells them, and of what may be left where it tells its moments.
@@ -32,6 +33,11 @@ pub record Replays (in_bank keeps : Bool) (result : Status) (shelf : ShelfSeen) 
   pub at_any_moment : flash.tells → IsSound flash.blocks flash.contents
       → (former : Boot) → BootOf flash.blocks flash.contents former → AtAnyMoment flash
       (λ left. KeepsBoot flash.blocks flash.contents left ⊎ InstallsForBox keeps shelf air flash former left)
+  -- Each that is left is what the flash held, or a step of a life (`life_holds` of ssu_loader): so of places it holds those that the flash
+  -- held, and those that were heard.
+  pub steps : flash.tells → IsSound flash.blocks flash.contents
+      → (former : Boot) → BootOf flash.blocks flash.contents former → AtAnyMoment flash
+      (λ left. (left ≡ flash.contents) ⊎ StepsForBox keeps shelf air flash former left)
   -- If packets at the front, with the places kept, carry a group whole, that is decided first, and no call fails, the
   -- answer is Installed, and boot takes its image.
   pub carried : flash.tells → IsReady flash → (former : Boot) → BootOf flash.blocks flash.contents former
@@ -58,6 +64,21 @@ pub record Replays (in_bank keeps : Bool) (result : Status) (shelf : ShelfSeen) 
       (λ chosen missing. StagesStanding flash.blocks flash.contents_after me (heard_in me taken)))
   -- Of a group with a wrong module nothing stays staged.
   pub forgotten : flash.tells → keeps ≡ true → OnBadModule result (StagesNone flash.blocks flash.contents_after)
+  -- What was staged stays staged at any moment, up to a choice with another message, a group with a wrong module or a record that is
+  -- committed; the margin falls by one at most, and at an answer that is no fault of the flash not at all.
+  pub lasts : flash.tells → keeps ≡ true → IsSound flash.blocks flash.contents
+      → (former : Boot) → BootOf flash.blocks flash.contents former → AtAnyMoment flash
+      (λ left. (left ≡ flash.contents) ⊎ LastsForBox 1 keeps shelf air flash former left)
+  pub lasts_unfailed : flash.tells → keeps ≡ true → IsSound flash.blocks flash.contents
+      → (former : Boot) → BootOf flash.blocks flash.contents former → ¬ (result ≡ FlashFault)
+      → (flash.contents_after ≡ flash.contents) ⊎ LastsForBox 0 keeps shelf air flash former flash.contents_after
+  -- Where nothing is decided: the group that is staged was staged before, with all that it has had and at least its margin; or the margin is
+  -- whole, as where the group began anew.
+  pub margin : flash.tells → keeps ≡ true → IsSound flash.blocks flash.contents
+      → (former : Boot) → BootOf flash.blocks flash.contents former
+      → OnNoDecision result (KeepsMargin flash.blocks flash.contents flash.contents_after)
+  -- Where the flash failed at a packet, all that was stored before that packet stays so.
+  pub faulted : flash.tells → keeps ≡ true → result ≡ FlashFault → IsNotBegun air flash ⊎ BreaksForBox keeps shelf air flash
   -- Contents that are not sound, or that no record can follow, are only read, and no packet is taken.
   pub refused : flash.tells → ¬ IsSound flash.blocks flash.contents ⊎ IsWorn flash.blocks flash.contents
       → IsNotBegun air flash

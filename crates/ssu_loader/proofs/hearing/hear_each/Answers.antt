@@ -11,12 +11,14 @@ use Rattle.ssu_route.specs.Queries.{after_all}
 use Rattle.ssu_route.specs.Windows.{beginnings}
 use Rattle.ssu_loader.specs.Collecting.{Collects}
 use Rattle.flash_dev.specs.Moments.{LeavesOnly}
+use Rattle.ssu_loader.specs.Lasting.{Lasts}
 use Rattle.ssu_loader.specs.Leaving.{SectionsLeave}
 use Rattle.ssu_loader.specs.Life.{HoldsHeard}
 use Rattle.ssu_loader.specs.Storing.{HasNoPrev}
 use Rattle.ssu_loader.proofs.AnsweringLaws.{if_none_at}
 use Rattle.ssu_loader.proofs.CollectingLaws.{undecided_of}
-use Rattle.ssu_loader.proofs.HearingLaws.{goes_on_none, goes_on_some, heard_alone, heard_ends, heard_holds, heard_holds_left, heard_leaves, heard_left, heard_more, heard_none, heard_seen, heard_stops, heard_untouched, heard_wrong, take_whole}
+use Rattle.ssu_loader.proofs.HearingLaws.{goes_on_none, goes_on_some, heard_alone, heard_ends, heard_holds, heard_holds_left, heard_lasts, heard_lasts_left, heard_leaves, heard_left, heard_more, heard_none, heard_seen, heard_stops, heard_untouched, heard_wrong, take_whole}
+use Rattle.ssu_loader.proofs.LastingLaws.{lasts_weaker}
 use Rattle.ssu_loader.proofs.UnlessLaws.{unless_from, unless_none, unless_one}
 use Rattle.ssu_loader.proofs.hearing.hear_each.Goals as goal
 
@@ -41,7 +43,8 @@ loop-k-preserved g c =
     c.loop-k.invariant c.requires.usable c.get.ensures.bytes
     (λ me heard col. if_none_at _ c.in_ok-hear.field-0 c.in-None.is (c.in_ok-hear.ensures.collects me heard col))
     (λ tells me heard col. goes_on_none me (heard_on c.args.pid section ∷ heard) c.loop-k.collector.bank x y c.in_ok-hear.field-0 c.in-None.is (c.in_ok-hear.ensures.goes_on tells me heard col))
-    (λ tells me heard col. c.hear.ensures.left tells me heard col) c.hear.ensures.untouched c.hear.ensures.holds c.hear.ensures.holds_left
+    (λ tells me heard col. c.hear.ensures.left tells me heard col) c.hear.ensures.untouched c.hear.ensures.holds c.hear.ensures.holds_left c.in_ok-hear.ensures.lasts c.hear.ensures.lasts_left
+    (λ keeps tells me heard col. if_none_at _ c.in_ok-hear.field-0 c.in-None.is (c.in_ok-hear.ensures.margin keeps tells me heard col))
     (if_none_at _ c.in_ok-hear.field-0 c.in-None.is (unless_none {E = Unit {0}} (Ok c.in_ok-hear.field-0) _ c.in_ok-hear.ensures.same_bank)) c.in_ok-hear.ensures.lent c.hear.ensures.blocks c.hear.ensures.block_size c.hear.ensures.cause.later
 
 pub returns-in_err-hear-clause-held : goal.returns-in_err-hear-clause-held
@@ -238,3 +241,58 @@ returns-clause-holds_left g c = λ tells me heard col.
     let all : take c.loop-k.k c.args.each.now ≡ c.args.each.now = take_whole c.args.each.now c.loop-k.k (omega (arith, c.loop-k-test.false, c.len-k-end.ensures)) in
     subst (λ (sections : List (List ℕ)). LeavesOnly f.moment f.left_since c.args.flash.now c.loop-k.flash (HoldsHeard (geometry_of c.args.collector.now.bank) me (after_all c.args.pid sections heard) (f.contents c.args.flash.now))) all
     (c.loop-k.invariant.holds_left tells me heard col)
+
+-- ---- what stays staged
+
+pub returns-in-Some-clause-lasts : goal.returns-in-Some-clause-lasts
+returns-in-Some-clause-lasts g c = λ keeps tells me heard col.
+    heard_lasts g.S.Stage g.F.Flash c.args.pid c.args.each.now c.loop-k.k c.args.collector.now c.args.flash.now c.loop-k.collector c.loop-k.flash c.hear.new.self c.hear.new.flash c.get.result.now
+    c.loop-k.invariant c.requires.usable c.get.ensures.bytes 0 keeps tells me heard col (g.F.Flash.contents c.hear.new.flash)
+    (c.in_ok-hear.ensures.lasts keeps tells me (after_all c.args.pid (take c.loop-k.k c.args.each.now) heard) (c.loop-k.invariant.collects me heard col))
+
+pub returns-in_err-hear-clause-lasts_held : goal.returns-in_err-hear-clause-lasts_held
+returns-in_err-hear-clause-lasts_held g c = λ keeps tells me heard col.
+    heard_lasts g.S.Stage g.F.Flash c.args.pid c.args.each.now c.loop-k.k c.args.collector.now c.args.flash.now c.loop-k.collector c.loop-k.flash c.hear.new.self c.hear.new.flash c.get.result.now
+    c.loop-k.invariant c.requires.usable c.get.ensures.bytes 1 keeps tells me heard col (g.F.Flash.contents c.hear.new.flash)
+    (c.hear.ensures.lasts_held keeps tells me (after_all c.args.pid (take c.loop-k.k c.args.each.now) heard) (c.loop-k.invariant.collects me heard col))
+
+pub returns-in_err-hear-clause-lasts_left : goal.returns-in_err-hear-clause-lasts_left
+returns-in_err-hear-clause-lasts_left g c = λ keeps tells me heard col.
+    heard_lasts_left g.S.Stage g.F.Flash c.args.pid c.args.each.now c.loop-k.k c.args.collector.now c.args.flash.now c.loop-k.collector c.loop-k.flash c.hear.new.self c.hear.new.flash c.get.result.now
+    c.loop-k.invariant c.requires.usable c.get.ensures.bytes keeps tells me heard col
+    (c.hear.ensures.lasts_left keeps tells me (after_all c.args.pid (take c.loop-k.k c.args.each.now) heard) (c.loop-k.invariant.collects me heard col))
+
+pub returns-in-Some-clause-lasts_held : goal.returns-in-Some-clause-lasts_held
+returns-in-Some-clause-lasts_held g c = λ keeps tells me heard col.
+    heard_lasts g.S.Stage g.F.Flash c.args.pid c.args.each.now c.loop-k.k c.args.collector.now c.args.flash.now c.loop-k.collector c.loop-k.flash c.hear.new.self c.hear.new.flash c.get.result.now
+    c.loop-k.invariant c.requires.usable c.get.ensures.bytes 1 keeps tells me heard col (g.F.Flash.contents c.hear.new.flash)
+    (c.hear.ensures.lasts_held keeps tells me (after_all c.args.pid (take c.loop-k.k c.args.each.now) heard) (c.loop-k.invariant.collects me heard col))
+
+pub returns-in-Some-clause-lasts_left : goal.returns-in-Some-clause-lasts_left
+returns-in-Some-clause-lasts_left g c = λ keeps tells me heard col.
+    heard_lasts_left g.S.Stage g.F.Flash c.args.pid c.args.each.now c.loop-k.k c.args.collector.now c.args.flash.now c.loop-k.collector c.loop-k.flash c.hear.new.self c.hear.new.flash c.get.result.now
+    c.loop-k.invariant c.requires.usable c.get.ensures.bytes keeps tells me heard col
+    (c.hear.ensures.lasts_left keeps tells me (after_all c.args.pid (take c.loop-k.k c.args.each.now) heard) (c.loop-k.invariant.collects me heard col))
+
+pub returns-clause-lasts : goal.returns-clause-lasts
+returns-clause-lasts g c = λ keeps tells me heard col.
+    let f = g.F.Flash in
+    let all : take c.loop-k.k c.args.each.now ≡ c.args.each.now = take_whole c.args.each.now c.loop-k.k (omega (arith, c.loop-k-test.false, c.len-k-end.ensures)) in
+    subst (λ (sections : List (List ℕ)). Lasts 0 (geometry_of c.args.collector.now.bank) me (after_all c.args.pid sections heard) heard (f.contents c.args.flash.now) (f.contents c.loop-k.flash)) all
+    (c.loop-k.invariant.lasts keeps tells me heard col)
+
+pub returns-clause-lasts_held : goal.returns-clause-lasts_held
+returns-clause-lasts_held g c = λ keeps tells me heard col.
+    let f = g.F.Flash in
+    lasts_weaker 1 (geometry_of c.args.collector.now.bank) me (after_all c.args.pid c.args.each.now heard) heard (f.contents c.args.flash.now) (f.contents c.loop-k.flash)
+    (returns-clause-lasts g c keeps tells me heard col)
+
+pub returns-clause-lasts_left : goal.returns-clause-lasts_left
+returns-clause-lasts_left g c = λ keeps tells me heard col.
+    let f = g.F.Flash in
+    let all : take c.loop-k.k c.args.each.now ≡ c.args.each.now = take_whole c.args.each.now c.loop-k.k (omega (arith, c.loop-k-test.false, c.len-k-end.ensures)) in
+    subst (λ (sections : List (List ℕ)). LeavesOnly f.moment f.left_since c.args.flash.now c.loop-k.flash (Lasts 1 (geometry_of c.args.collector.now.bank) me (after_all c.args.pid sections heard) heard (f.contents c.args.flash.now))) all
+    (c.loop-k.invariant.lasts_left keeps tells me heard col)
+
+pub returns-clause-margin : goal.returns-clause-margin
+returns-clause-margin g c = c.loop-k.invariant.margin

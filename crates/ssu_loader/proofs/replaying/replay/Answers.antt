@@ -13,19 +13,23 @@ use Rattle.ssu_io.proofs.BytesLemmas.{Rose_since, Takes_none}
 use Rattle.ssu_io.specs.Seen.{source_seen}
 use Rattle.ts_input.specs.Packets.{IsOneMore, IsWithin}
 use Rattle.ssu_loader.specs.Replaying.{Ends, Fails, IsReady, receiver_at}
-use Rattle.ssu_loader.specs.Replays.{BeginsNone, BreaksAtPacket, ComesSeen, EndsWith, ReachesNone, ReplayLeaves}
+use Rattle.ssu_loader.specs.Remaining.{StagesLast}
+use Rattle.ssu_loader.specs.Replays.{BeginsNone, BreaksAtPacket, ComesSeen, EndsWith, HearsIn, ReachesNone, ReplayLeaves}
 use Rattle.ssu_loader.specs.Starting.{KnowsKept}
 use Rattle.ssu_loader.specs.declared.fault.LoadFault.{LoadFault}
 use Rattle.ssu_loader.specs.declared.fault.LoadFault.TheVariants.{ReadFault, TooLong}
 use Rattle.ssu_answer.specs.declared.verdict.Verdict.{Verdict}
 use Rattle.ssu_loader.specs.declared.loader.Loader.{Loader}
 use Rattle.ssu_loader.specs.Loading.{bank_of, receiver_in}
+use Rattle.ssu_loader.specs.Lasting.{BreaksLasting, KeepsMargin, TakesLasting}
 use Rattle.ssu_loader.specs.Life.{LeavesStep}
 use Rattle.ssu_loader.specs.Stepping.{TakesStep}
 use Rattle.ssu_loader.proofs.ReplayStepLaws.{leaves_step, same_step}
 use Rattle.ssu_loader.proofs.CarriedLaws.{taking_installs}
 use Rattle.ssu_loader.proofs.FreshLaws.{same_geometry}
+use Rattle.ssu_loader.proofs.LastingLaws.{same_lasting}
 use Rattle.ssu_loader.proofs.LeftLaws.{left_read}
+use Rattle.ssu_loader.proofs.MarginLaws.{margin_same}
 use Rattle.ssu_loader.proofs.OpeningLaws.{as_box, left_opened, of_former, of_opened}
 use Rattle.ssu_loader.proofs.ReplayLaws.{opening_ends, opening_fails, taking_fails, with_premise}
 use Rattle.ssu_loader.proofs.replaying.replay.Goals as goal
@@ -56,6 +60,15 @@ returns-in_err-loader g c =
             absurd (opening_ends g.S.Stage.KEEPS me air flash fault o.answer fails tells ready flash_well (λ e. memory (is ∙ ap (λ (e : LoadFault). Err e) e)));
         ends = subst (λ (r : Result Verdict LoadFault). IfOk r (Ends g.S.Stage.IN_BANK g.S.Stage.KEEPS me air flash)) (sym is) tt;
         fails = subst (λ (r : Result Verdict LoadFault). IfErr r (Fails g.S.Stage.KEEPS me air flash)) (sym is) fails;
+        lasts = λ keeps tells sound former boot.
+            let P : List ℕ → Type 0 = TakesLasting 1 (receiver_at g.S.Stage.KEEPS me flash former) left left blocks x in
+            let same : P x = same_lasting 1 (receiver_at g.S.Stage.KEEPS me flash former) left left blocks x [] (Takes_none left) in
+            record { left = left_read f old opened P tells o.reads same; held = subst P (sym (o.reads.same tells)) same };
+        lasts_unfailed = λ unfailed keeps tells sound former boot.
+            subst (TakesLasting 0 (receiver_at g.S.Stage.KEEPS me flash former) left left blocks x) (sym (o.reads.same tells))
+            (same_lasting 0 (receiver_at g.S.Stage.KEEPS me flash former) left left blocks x [] (Takes_none left));
+        margin = λ none keeps tells sound former boot. subst (KeepsMargin blocks x) (sym (o.reads.same tells)) (margin_same blocks x);
+        faulted = λ fault keeps tells. inl (refl, o.reads);
         untouched = λ tells former boot taken rest told told_then none. o.reads;
         refused = λ tells which. (refl, o.reads);
         blocks = same_geometry _ _ o.reads.blocks o.reads.block_size;
@@ -118,13 +131,35 @@ returns g c =
               ready = ready;
               reaches = as_box s f me loader old opened new o.follows o.geometry_is o.reads (λ own. ReachesNone (KnowsKept s f) own left left_after IsWithin) (t.read_fault you o.follows is);
               keeps = λ tells. kept tells (inl is);
+              staged = λ keeps tells. as_box s f me loader old opened new o.follows o.geometry_is o.reads (λ own. HearsIn own left left_after IsWithin (λ heard. StagesLast own heard blocks y))
+                  (subst (λ (g : Geometry). HearsIn you left left_after IsWithin (λ heard. StagesLast you heard g y)) o.geometry_is (t.read_staged keeps tells you o.follows is));
             })
             (λ is. record {
               ready = ready;
               reaches = as_box s f me loader old opened new o.follows o.geometry_is o.reads (λ own. ReachesNone (KnowsKept s f) own left left_after IsOneMore) (t.too_long you o.follows is);
               keeps = λ tells. kept tells (inr is);
+              staged = λ keeps tells. as_box s f me loader old opened new o.follows o.geometry_is o.reads (λ own. HearsIn own left left_after IsOneMore (λ heard. StagesLast own heard blocks y))
+                  (subst (λ (g : Geometry). HearsIn you left left_after IsOneMore (λ heard. StagesLast you heard g y)) o.geometry_is (t.long_staged keeps tells you o.follows is));
             })
             (λ is. inr (ready, as_box s f me loader old opened new o.follows o.geometry_is o.reads (λ own. BreaksAtPacket (KnowsKept s f) own left left_after) (t.flash_fault you o.follows is)));
+        lasts = λ keeps tells sound former boot.
+            let box = receiver_at s.KEEPS me flash former in
+            let Lasting : List ℕ → Type 0 = TakesLasting 1 box left left_after blocks x in
+            let taken = of_former s f me loader old opened new o.follows o.geometry_is o.reads tells former boot (λ you g z. TakesLasting 1 you left left_after g z y) (t.lasts keeps tells) in
+            record {
+              left = joined f.moment f.left_since old opened new Lasting
+                  (left_read f old opened Lasting tells o.reads (same_lasting 1 box left left_after blocks x taken.taken taken.takes))
+                  (of_former s f me loader old opened new o.follows o.geometry_is o.reads tells former boot
+                  (λ you g z. LeavesOnly f.moment f.left_since opened new (TakesLasting 1 you left left_after g z)) (t.lasts_left keeps tells));
+              held = taken;
+            };
+        lasts_unfailed = λ unfailed keeps tells sound former boot.
+            of_former s f me loader old opened new o.follows o.geometry_is o.reads tells former boot (λ you g z. TakesLasting 0 you left left_after g z y)
+            (λ you follows. t.lasts_unfailed keeps tells you follows unfailed);
+        margin = λ none keeps tells sound former boot.
+            of_opened s f me loader old opened new o.follows o.geometry_is o.reads tells (λ (g : Geometry) (z : List ℕ). KeepsMargin g z y) (t.margin keeps tells you o.follows none);
+        faulted = λ fault keeps tells. inr (as_box s f me loader old opened new o.follows o.geometry_is o.reads (λ own. BreaksLasting own left left_after blocks y)
+            (subst (λ (g : Geometry). BreaksLasting you left left_after g y) o.geometry_is (t.fault_lasts keeps tells you o.follows fault)));
         untouched = λ tells former boot taken rest told told_then none.
             let same : new ≡ opened = of_former s f me loader old opened new o.follows o.geometry_is o.reads tells former boot
             (λ you g z. BeginsNone you taken → new ≡ opened) (λ you follows. t.untouched you follows taken rest told told_then) none in

@@ -4,10 +4,11 @@ use Rattle.flash_bank.specs.Bank.{geometry_of}
 use Rattle.ts_section.specs.Events.{Heard}
 use Rattle.ssu_loader.specs.Loading.{bank_of}
 use Rattle.ts_input.specs.Packets.{IsWithin, IsOneMore}
+use Rattle.ssu_loader.specs.Remaining.{StagesLast}
 use Rattle.ssu_loader.specs.Replays.{HearsIn}
 use Rattle.ssu_loader.specs.Starting.{KnowsKept}
 use Rattle.ssu_loader.specs.Verdicts.{IsUndecided}
-use Rattle.ssu_loader.proofs.TakingLaws.{ComesLast, EndsLast, at_end, at_packet, ended_too_long, ended_within, ends_at, ends_last, kept, knows_heard, knows_packets, leaves_at, left_at, left_kept, newest_packets, open_now, seen_at, seen_last, so_far_more, so_far_none, staged_now, step_at, step_end, step_end_left, step_left, stored_now, undecided_now, KeepsWhereNone, untouched_at, untouched_in, untouched_more}
+use Rattle.ssu_loader.proofs.TakingLaws.{ComesLast, EndsLast, at_end, at_packet, decides_something, ended_too_long, ended_within, ends_at, ends_last, kept, knows_heard, knows_packets, last_now, lasts_at, lasts_at_left, lasts_broken, lasts_end, lasts_end_left, leaves_at, left_at, left_kept, newest_packets, open_now, seen_at, seen_last, so_far_more, so_far_none, staged_now, step_at, step_end, step_end_left, step_left, stored_now, undecided_now, KeepsWhereNone, untouched_at, untouched_in, untouched_more}
 use Rattle.ssu_loader.proofs.replaying.take_packets.Goals as goal
 
 pub loop-loader-init : goal.loop-loader-init
@@ -49,6 +50,7 @@ returns-in-End-clause-ends g c = λ tells me follows.
       open_now g.S.Stage g.F.Flash l.input.count c.args.loader.now l.loader c.args.flash.now l.flash (left c.args.air.now) (left l.air) l.invariant.so_far tells me follows,
       λ in_bank. stored_now g.S.Stage g.F.Flash l.input.count c.args.loader.now l.loader c.args.flash.now l.flash (left c.args.air.now) (left l.air) l.invariant.so_far g.met.S.Stage.in_bank in_bank tells me follows,
       λ keeps. staged_now g.S.Stage g.F.Flash l.input.count c.args.loader.now l.loader c.args.flash.now l.flash (left c.args.air.now) (left l.air) l.invariant.so_far keeps tells me follows,
+      λ keeps. last_now g.S.Stage g.F.Flash l.input.count c.args.loader.now l.loader c.args.flash.now l.flash (left c.args.air.now) (left l.air) l.invariant.so_far keeps tells me follows,
     ))
     (c.in-End.ensures.end c.loop-loader-test.ensures.end)
     (kept g.S.Stage g.F.Flash l.input.count c.args.loader.now l.loader c.args.flash.now l.flash (left c.args.air.now) (left l.air) l.invariant.so_far tells)
@@ -259,6 +261,9 @@ loop-loader-preserved g c =
             left = c.in-Ok-None.ensures.left;
             holds = c.in-Ok-None.ensures.holds;
             holds_left = c.in-Ok-None.ensures.holds_left;
+            lasts = c.in-Ok-None.ensures.lasts;
+            lasts_left = c.in-Ok-None.ensures.lasts_left;
+            margin = λ keeps tells me ps follows. rw is at (c.in-Ok-None.ensures.margin keeps tells me ps follows);
             untouched = c.in-Ok-None.ensures.untouched;
             same_bank = rw is at c.in-Ok-None.ensures.same_bank;
             blocks = c.in-Ok-None.ensures.blocks;
@@ -352,3 +357,169 @@ returns-in-Err-clause-steps_left g c = λ tells me follows.
     let ps = newest_packets l.invariant.so_far.taken in
     step_left g.S.Stage g.F.Flash l.input.count c.args.loader.now l.loader c.args.flash.now l.flash (left c.args.air.now) (left l.air) l.invariant.so_far me (left c.next.new.air) c.packet.result.now takes one few tells follows c.packet-in-loop-loader.new.flash
     (c.in-Err.ensures.left tells me ps follows_now) (c.in-Err.ensures.holds_left tells me ps follows_now)
+
+-- ---- what stays staged
+
+pub returns-in-End-clause-lasts : goal.returns-in-End-clause-lasts
+returns-in-End-clause-lasts g c = λ keeps tells me follows.
+    let left = g.A.Source.left in
+    let l = c.loop-loader in
+    lasts_end g.S.Stage g.F.Flash l.input.count c.args.loader.now l.loader c.args.flash.now l.flash (left c.args.air.now) (left l.air) l.invariant.so_far me (left c.ended.new.air) IsWithin (ended_within g.S.Stage g.F.Flash l.input.count c.args.loader.now l.loader c.args.flash.now l.flash (left c.args.air.now) (left l.air) l.invariant.so_far (left c.next.new.air) (left c.ended.new.air) (c.loop-loader-test.ensures.rest refl) c.in-End.ensures.nothing) tells follows 1 keeps
+
+pub returns-in-End-clause-lasts_left : goal.returns-in-End-clause-lasts_left
+returns-in-End-clause-lasts_left g c = λ keeps tells me follows.
+    let left = g.A.Source.left in
+    let l = c.loop-loader in
+    lasts_end_left g.S.Stage g.F.Flash l.input.count c.args.loader.now l.loader c.args.flash.now l.flash (left c.args.air.now) (left l.air) l.invariant.so_far me (left c.ended.new.air) IsWithin (ended_within g.S.Stage g.F.Flash l.input.count c.args.loader.now l.loader c.args.flash.now l.flash (left c.args.air.now) (left l.air) l.invariant.so_far (left c.next.new.air) (left c.ended.new.air) (c.loop-loader-test.ensures.rest refl) c.in-End.ensures.nothing) tells follows keeps
+
+pub returns-in-Failed-clause-lasts : goal.returns-in-Failed-clause-lasts
+returns-in-Failed-clause-lasts g c = λ keeps tells me follows.
+    let left = g.A.Source.left in
+    let l = c.loop-loader in
+    lasts_end g.S.Stage g.F.Flash l.input.count c.args.loader.now l.loader c.args.flash.now l.flash (left c.args.air.now) (left l.air) l.invariant.so_far me (left c.ended.new.air) IsWithin (ended_within g.S.Stage g.F.Flash l.input.count c.args.loader.now l.loader c.args.flash.now l.flash (left c.args.air.now) (left l.air) l.invariant.so_far (left c.next.new.air) (left c.ended.new.air) (c.loop-loader-test.ensures.rest refl) c.in-Failed.ensures.nothing) tells follows 1 keeps
+
+pub returns-in-Failed-clause-lasts_left : goal.returns-in-Failed-clause-lasts_left
+returns-in-Failed-clause-lasts_left g c = λ keeps tells me follows.
+    let left = g.A.Source.left in
+    let l = c.loop-loader in
+    lasts_end_left g.S.Stage g.F.Flash l.input.count c.args.loader.now l.loader c.args.flash.now l.flash (left c.args.air.now) (left l.air) l.invariant.so_far me (left c.ended.new.air) IsWithin (ended_within g.S.Stage g.F.Flash l.input.count c.args.loader.now l.loader c.args.flash.now l.flash (left c.args.air.now) (left l.air) l.invariant.so_far (left c.next.new.air) (left c.ended.new.air) (c.loop-loader-test.ensures.rest refl) c.in-Failed.ensures.nothing) tells follows keeps
+
+pub returns-in-TooLong-clause-lasts : goal.returns-in-TooLong-clause-lasts
+returns-in-TooLong-clause-lasts g c = λ keeps tells me follows.
+    let left = g.A.Source.left in
+    let l = c.loop-loader in
+    lasts_end g.S.Stage g.F.Flash l.input.count c.args.loader.now l.loader c.args.flash.now l.flash (left c.args.air.now) (left l.air) l.invariant.so_far me (left c.ended.new.air) IsOneMore (ended_too_long g.S.Stage g.F.Flash l.input.count c.args.loader.now l.loader c.args.flash.now l.flash (left c.args.air.now) (left l.air) l.invariant.so_far (left c.next.new.air) (left c.ended.new.air) (c.loop-loader-test.ensures.rest refl) (sym (c.loop-loader-test.ensures.same refl) ∙ c.in-TooLong.ensures.most) c.in-TooLong.ensures.too_long) tells follows 1 keeps
+
+pub returns-in-TooLong-clause-lasts_left : goal.returns-in-TooLong-clause-lasts_left
+returns-in-TooLong-clause-lasts_left g c = λ keeps tells me follows.
+    let left = g.A.Source.left in
+    let l = c.loop-loader in
+    lasts_end_left g.S.Stage g.F.Flash l.input.count c.args.loader.now l.loader c.args.flash.now l.flash (left c.args.air.now) (left l.air) l.invariant.so_far me (left c.ended.new.air) IsOneMore (ended_too_long g.S.Stage g.F.Flash l.input.count c.args.loader.now l.loader c.args.flash.now l.flash (left c.args.air.now) (left l.air) l.invariant.so_far (left c.next.new.air) (left c.ended.new.air) (c.loop-loader-test.ensures.rest refl) (sym (c.loop-loader-test.ensures.same refl) ∙ c.in-TooLong.ensures.most) c.in-TooLong.ensures.too_long) tells follows keeps
+
+pub returns-in-Ok-Some-clause-lasts : goal.returns-in-Ok-Some-clause-lasts
+returns-in-Ok-Some-clause-lasts g c = λ keeps tells me follows.
+    let left = g.A.Source.left in
+    let l = c.loop-loader in
+    let takes : Takes (left l.air) (left c.next.new.air) c.packet.result.now = rw c.packet.ensures (c.loop-loader-test.ensures.packet refl) in
+    let one : length c.packet.result.now ≡ 188 = rw c.packet.ensures c.next.ensures.len in
+    let few : l.input.count < 16777216 = omega (arith, c.next.ensures.within, (c.loop-loader-test.ensures.count refl)) in
+    let follows_now = l.invariant.so_far.follows me follows in
+    let ps = newest_packets l.invariant.so_far.taken in
+    lasts_at g.S.Stage g.F.Flash l.input.count c.args.loader.now l.loader c.args.flash.now l.flash (left c.args.air.now) (left l.air) l.invariant.so_far me (left c.next.new.air) c.packet.result.now takes one few tells follows 1 keeps (g.F.Flash.contents c.packet-in-loop-loader.new.flash)
+    (c.in-Ok-Some.ensures.lasts_held keeps tells me ps follows_now)
+
+pub returns-in-Ok-Some-clause-lasts_left : goal.returns-in-Ok-Some-clause-lasts_left
+returns-in-Ok-Some-clause-lasts_left g c = λ keeps tells me follows.
+    let left = g.A.Source.left in
+    let l = c.loop-loader in
+    let takes : Takes (left l.air) (left c.next.new.air) c.packet.result.now = rw c.packet.ensures (c.loop-loader-test.ensures.packet refl) in
+    let one : length c.packet.result.now ≡ 188 = rw c.packet.ensures c.next.ensures.len in
+    let few : l.input.count < 16777216 = omega (arith, c.next.ensures.within, (c.loop-loader-test.ensures.count refl)) in
+    let follows_now = l.invariant.so_far.follows me follows in
+    let ps = newest_packets l.invariant.so_far.taken in
+    lasts_at_left g.S.Stage g.F.Flash l.input.count c.args.loader.now l.loader c.args.flash.now l.flash (left c.args.air.now) (left l.air) l.invariant.so_far me (left c.next.new.air) c.packet.result.now takes one few tells follows keeps c.packet-in-loop-loader.new.flash
+    (c.in-Ok-Some.ensures.lasts_left keeps tells me ps follows_now)
+
+pub returns-in-Err-clause-lasts : goal.returns-in-Err-clause-lasts
+returns-in-Err-clause-lasts g c = λ keeps tells me follows.
+    let left = g.A.Source.left in
+    let l = c.loop-loader in
+    let takes : Takes (left l.air) (left c.next.new.air) c.packet.result.now = rw c.packet.ensures (c.loop-loader-test.ensures.packet refl) in
+    let one : length c.packet.result.now ≡ 188 = rw c.packet.ensures c.next.ensures.len in
+    let few : l.input.count < 16777216 = omega (arith, c.next.ensures.within, (c.loop-loader-test.ensures.count refl)) in
+    let follows_now = l.invariant.so_far.follows me follows in
+    let ps = newest_packets l.invariant.so_far.taken in
+    lasts_at g.S.Stage g.F.Flash l.input.count c.args.loader.now l.loader c.args.flash.now l.flash (left c.args.air.now) (left l.air) l.invariant.so_far me (left c.next.new.air) c.packet.result.now takes one few tells follows 1 keeps (g.F.Flash.contents c.packet-in-loop-loader.new.flash)
+    (c.in-Err.ensures.lasts_held keeps tells me ps follows_now)
+
+pub returns-in-Err-clause-lasts_left : goal.returns-in-Err-clause-lasts_left
+returns-in-Err-clause-lasts_left g c = λ keeps tells me follows.
+    let left = g.A.Source.left in
+    let l = c.loop-loader in
+    let takes : Takes (left l.air) (left c.next.new.air) c.packet.result.now = rw c.packet.ensures (c.loop-loader-test.ensures.packet refl) in
+    let one : length c.packet.result.now ≡ 188 = rw c.packet.ensures c.next.ensures.len in
+    let few : l.input.count < 16777216 = omega (arith, c.next.ensures.within, (c.loop-loader-test.ensures.count refl)) in
+    let follows_now = l.invariant.so_far.follows me follows in
+    let ps = newest_packets l.invariant.so_far.taken in
+    lasts_at_left g.S.Stage g.F.Flash l.input.count c.args.loader.now l.loader c.args.flash.now l.flash (left c.args.air.now) (left l.air) l.invariant.so_far me (left c.next.new.air) c.packet.result.now takes one few tells follows keeps c.packet-in-loop-loader.new.flash
+    (c.in-Err.ensures.lasts_left keeps tells me ps follows_now)
+
+pub returns-in-Failed-clause-read_staged : goal.returns-in-Failed-clause-read_staged
+returns-in-Failed-clause-read_staged g c = λ keeps tells me follows is.
+    let left = g.A.Source.left in
+    let l = c.loop-loader in
+    let Now : List Heard → Type 0 = λ heard. StagesLast me heard (geometry_of (bank_of c.args.loader.now)) (g.F.Flash.contents l.flash) in
+    at_end g.S.Stage g.F.Flash l.input.count c.args.loader.now l.loader c.args.flash.now l.flash (left c.args.air.now) (left l.air) l.invariant.so_far me (left c.ended.new.air) IsWithin Now
+    (ended_within g.S.Stage g.F.Flash l.input.count c.args.loader.now l.loader c.args.flash.now l.flash (left c.args.air.now) (left l.air) l.invariant.so_far (left c.next.new.air) (left c.ended.new.air) (c.loop-loader-test.ensures.rest refl) c.in-Failed.ensures.nothing) (last_now g.S.Stage g.F.Flash l.input.count c.args.loader.now l.loader c.args.flash.now l.flash (left c.args.air.now) (left l.air) l.invariant.so_far keeps tells me follows)
+
+pub returns-in-TooLong-clause-long_staged : goal.returns-in-TooLong-clause-long_staged
+returns-in-TooLong-clause-long_staged g c = λ keeps tells me follows is.
+    let left = g.A.Source.left in
+    let l = c.loop-loader in
+    let Now : List Heard → Type 0 = λ heard. StagesLast me heard (geometry_of (bank_of c.args.loader.now)) (g.F.Flash.contents l.flash) in
+    at_end g.S.Stage g.F.Flash l.input.count c.args.loader.now l.loader c.args.flash.now l.flash (left c.args.air.now) (left l.air) l.invariant.so_far me (left c.ended.new.air) IsOneMore Now
+    (ended_too_long g.S.Stage g.F.Flash l.input.count c.args.loader.now l.loader c.args.flash.now l.flash (left c.args.air.now) (left l.air) l.invariant.so_far (left c.next.new.air) (left c.ended.new.air) (c.loop-loader-test.ensures.rest refl) (sym (c.loop-loader-test.ensures.same refl) ∙ c.in-TooLong.ensures.most) c.in-TooLong.ensures.too_long) (last_now g.S.Stage g.F.Flash l.input.count c.args.loader.now l.loader c.args.flash.now l.flash (left c.args.air.now) (left l.air) l.invariant.so_far keeps tells me follows)
+
+pub returns-in-Err-clause-fault_lasts : goal.returns-in-Err-clause-fault_lasts
+returns-in-Err-clause-fault_lasts g c = λ keeps tells me follows is.
+    let left = g.A.Source.left in
+    let l = c.loop-loader in
+    let takes : Takes (left l.air) (left c.next.new.air) c.packet.result.now = rw c.packet.ensures (c.loop-loader-test.ensures.packet refl) in
+    let one : length c.packet.result.now ≡ 188 = rw c.packet.ensures c.next.ensures.len in
+    let few : l.input.count < 16777216 = omega (arith, c.next.ensures.within, (c.loop-loader-test.ensures.count refl)) in
+    let follows_now = l.invariant.so_far.follows me follows in
+    let ps = newest_packets l.invariant.so_far.taken in
+    lasts_broken g.S.Stage g.F.Flash l.input.count c.args.loader.now l.loader c.args.flash.now l.flash (left c.args.air.now) (left l.air) l.invariant.so_far me (left c.next.new.air) c.packet.result.now takes one few tells follows keeps (g.F.Flash.contents c.packet-in-loop-loader.new.flash)
+    (c.in-Err.ensures.lasts_held keeps tells me ps follows_now)
+
+pub returns-in-End-clause-lasts_unfailed : goal.returns-in-End-clause-lasts_unfailed
+returns-in-End-clause-lasts_unfailed g c = λ keeps tells me follows unfailed.
+    let left = g.A.Source.left in
+    let l = c.loop-loader in
+    lasts_end g.S.Stage g.F.Flash l.input.count c.args.loader.now l.loader c.args.flash.now l.flash (left c.args.air.now) (left l.air) l.invariant.so_far me (left c.ended.new.air) IsWithin (ended_within g.S.Stage g.F.Flash l.input.count c.args.loader.now l.loader c.args.flash.now l.flash (left c.args.air.now) (left l.air) l.invariant.so_far (left c.next.new.air) (left c.ended.new.air) (c.loop-loader-test.ensures.rest refl) c.in-End.ensures.nothing) tells follows 0 keeps
+
+pub returns-in-Failed-clause-lasts_unfailed : goal.returns-in-Failed-clause-lasts_unfailed
+returns-in-Failed-clause-lasts_unfailed g c = λ keeps tells me follows unfailed.
+    let left = g.A.Source.left in
+    let l = c.loop-loader in
+    lasts_end g.S.Stage g.F.Flash l.input.count c.args.loader.now l.loader c.args.flash.now l.flash (left c.args.air.now) (left l.air) l.invariant.so_far me (left c.ended.new.air) IsWithin (ended_within g.S.Stage g.F.Flash l.input.count c.args.loader.now l.loader c.args.flash.now l.flash (left c.args.air.now) (left l.air) l.invariant.so_far (left c.next.new.air) (left c.ended.new.air) (c.loop-loader-test.ensures.rest refl) c.in-Failed.ensures.nothing) tells follows 0 keeps
+
+pub returns-in-TooLong-clause-lasts_unfailed : goal.returns-in-TooLong-clause-lasts_unfailed
+returns-in-TooLong-clause-lasts_unfailed g c = λ keeps tells me follows unfailed.
+    let left = g.A.Source.left in
+    let l = c.loop-loader in
+    lasts_end g.S.Stage g.F.Flash l.input.count c.args.loader.now l.loader c.args.flash.now l.flash (left c.args.air.now) (left l.air) l.invariant.so_far me (left c.ended.new.air) IsOneMore (ended_too_long g.S.Stage g.F.Flash l.input.count c.args.loader.now l.loader c.args.flash.now l.flash (left c.args.air.now) (left l.air) l.invariant.so_far (left c.next.new.air) (left c.ended.new.air) (c.loop-loader-test.ensures.rest refl) (sym (c.loop-loader-test.ensures.same refl) ∙ c.in-TooLong.ensures.most) c.in-TooLong.ensures.too_long) tells follows 0 keeps
+
+pub returns-in-Ok-Some-clause-lasts_unfailed : goal.returns-in-Ok-Some-clause-lasts_unfailed
+returns-in-Ok-Some-clause-lasts_unfailed g c = λ keeps tells me follows unfailed.
+    let left = g.A.Source.left in
+    let l = c.loop-loader in
+    let takes : Takes (left l.air) (left c.next.new.air) c.packet.result.now = rw c.packet.ensures (c.loop-loader-test.ensures.packet refl) in
+    let one : length c.packet.result.now ≡ 188 = rw c.packet.ensures c.next.ensures.len in
+    let few : l.input.count < 16777216 = omega (arith, c.next.ensures.within, (c.loop-loader-test.ensures.count refl)) in
+    let follows_now = l.invariant.so_far.follows me follows in
+    let ps = newest_packets l.invariant.so_far.taken in
+    lasts_at g.S.Stage g.F.Flash l.input.count c.args.loader.now l.loader c.args.flash.now l.flash (left c.args.air.now) (left l.air) l.invariant.so_far me (left c.next.new.air) c.packet.result.now takes one few tells follows 0 keeps (g.F.Flash.contents c.packet-in-loop-loader.new.flash)
+    (c.in-Ok-Some.ensures.lasts keeps tells me ps follows_now)
+
+pub returns-in-Err-clause-lasts_unfailed : goal.returns-in-Err-clause-lasts_unfailed
+returns-in-Err-clause-lasts_unfailed g c = λ keeps tells me follows unfailed. absurd (unfailed refl)
+
+pub returns-in-End-clause-margin : goal.returns-in-End-clause-margin
+returns-in-End-clause-margin g c = λ keeps tells me follows none. c.loop-loader.invariant.so_far.margin keeps tells me follows
+
+pub returns-in-Failed-clause-margin : goal.returns-in-Failed-clause-margin
+returns-in-Failed-clause-margin g c = λ keeps tells me follows none. c.loop-loader.invariant.so_far.margin keeps tells me follows
+
+pub returns-in-TooLong-clause-margin : goal.returns-in-TooLong-clause-margin
+returns-in-TooLong-clause-margin g c = λ keeps tells me follows none. c.loop-loader.invariant.so_far.margin keeps tells me follows
+
+pub returns-in-Ok-Some-clause-margin : goal.returns-in-Ok-Some-clause-margin
+returns-in-Ok-Some-clause-margin g c = λ keeps tells me follows none.
+    let l = c.loop-loader in
+    let ps = newest_packets l.invariant.so_far.taken in
+    absurd (decides_something (KnowsKept g.S.Stage g.F.Flash) me _ c.in-Ok-Some.verdict
+    (rw c.in-Ok-Some.field-0-is at (c.in-Ok-Some.ensures.seen me ps (l.invariant.so_far.follows me follows))) none)
+
+pub returns-in-Err-clause-margin : goal.returns-in-Err-clause-margin
+returns-in-Err-clause-margin g c = λ keeps tells me follows none. absurd none

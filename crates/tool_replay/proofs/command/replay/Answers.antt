@@ -1,4 +1,4 @@
-use Rattle.std.proofs.Common.{ap, refl, ◌∙◌, arith}
+use Rattle.std.proofs.Common.{inl, inr, ap, refl, sym, ◌∙◌, arith}
 use Rattle.flash_bank.proofs.ReadsLemmas.{reads_none}
 use Rattle.flash_bank.specs.Seen.{flash_seen}
 use Rattle.ssu_io.specs.Seen.{shelf_seen, sink_seen, source_seen}
@@ -7,9 +7,9 @@ use Rattle.ssu_loader.specs.Replaying.{receiver_at}
 use Rattle.ssu_loader.specs.Replays.{BeginsNone, CarriesFirst, heard_in}
 use Rattle.ssu_loader.specs.Storing.{Stores}
 use Rattle.ssu_status.specs.Status.{OnIncomplete, status_of}
-use Rattle.tool_replay.proofs.CarriedLaws.{box_is_had, for_box, not_memory, of_box}
-use Rattle.tool_replay.proofs.KeptLaws.{leaves_for, leaves_same}
-use Rattle.tool_replay.proofs.StoredLaws.{fault_stages, fault_stores, refusal_stages, refusal_stores, verdict_keeps, verdict_stages, verdict_stores}
+use Rattle.tool_replay.proofs.CarriedLaws.{box_is_had, fault_of_flash, flash_status, for_box, no_flash_fault, not_memory, of_box}
+use Rattle.tool_replay.proofs.KeptLaws.{breaks_for, lasts_for, lasts_now, lasts_same, leaves_for, leaves_same, steps_for, steps_same}
+use Rattle.tool_replay.proofs.StoredLaws.{fault_margin, fault_stages, fault_stores, refusal_margin, refusal_stages, refusal_stores, verdict_keeps, verdict_margin, verdict_stages, verdict_stores}
 use Rattle.tool_replay.proofs.ToldLaws.{has_failed, no_box_failed, no_box_is_absent, no_fault, none_absent, reads_fault, reads_verdict, reads_written, says_fault, says_no_box, says_verdict}
 use Rattle.tool_replay.proofs.command.replay.Goals as goal
 
@@ -28,6 +28,11 @@ returns-in-Err g c =
     record {
       replays = record {
         at_any_moment = λ tells sound former boot. leaves_same g.S.Stage.KEEPS f shelf air same former only_now sound;
+        steps = λ tells sound former boot. steps_same g.S.Stage.KEEPS f shelf air same former only_now;
+        lasts = λ tells keeping sound former boot. lasts_same g.S.Stage.KEEPS f shelf air same former only_now;
+        lasts_unfailed = λ tells keeping sound former boot unfailed. inl refl;
+        faulted = λ tells keeping is. inl (refl, reads);
+        margin = λ tells keeping sound former boot. refusal_margin s _ b.refusals;
         carried = λ tells ready former boot box_file holds well memory front rest chosen image left within first.
             absurd (box_is_had _ shelf.held box_file s holds b.refusals b.absent b.refused b.fault_cause well.shelf_well memory);
         answers = says_no_box g.S.Stage.IN_BANK g.S.Stage.KEEPS shelf air flash out _ s b.refusals b.absent b.absent_name b.refused (refl, (refl, refl)) (refl, reads);
@@ -65,6 +70,12 @@ returns-in-Err-replay g c =
     record {
       replays = record {
         at_any_moment = λ tells sound former boot. leaves_for g.S.Stage.KEEPS f shelf air old new former file told (r.at_any_moment tells sound former boot);
+        steps = λ tells sound former boot. steps_for g.S.Stage.KEEPS f shelf air old new former file told (c.replay.ensures.steps tells sound former boot) (c.replay.ensures.steps_left tells sound former boot);
+        lasts = λ tells keeping sound former boot. lasts_for g.S.Stage.KEEPS f shelf air old new former file told (r.lasts keeping tells sound former boot);
+        lasts_unfailed = λ tells keeping sound former boot unfailed.
+            inr (record { box_file = file; told = told; takes = c.in-Err-replay.ensures.replays.lasts_unfailed (λ is. unfailed (status ∙ flash_status fault is)) keeping tells sound former boot });
+        margin = λ tells keeping sound former boot. rw status (fault_margin fault _ (λ none. c.in-Err-replay.ensures.replays.margin none keeping tells sound former boot));
+        faulted = λ tells keeping is. breaks_for g.S.Stage.KEEPS shelf air flash file told (c.in-Err-replay.ensures.replays.faulted (fault_of_flash fault (sym status ∙ is)) keeping tells);
         carried = λ tells ready former boot box_file holds well memory front rest chosen image left within first.
             absurd (c.in-Err-replay.ensures.replays.carried tells ready former boot well.air_well well.flash_well (not_memory fault (λ is. memory (status ∙ is)))
             front rest chosen image left within (for_box shelf.held box_file file (λ own. CarriesFirst (receiver_at g.S.Stage.KEEPS own flash former) front chosen image) holds told first));
@@ -104,6 +115,12 @@ returns-in-Ok-put_line g c =
     record {
       replays = record {
         at_any_moment = λ tells sound former boot. leaves_for g.S.Stage.KEEPS f shelf air old new former file told (r.at_any_moment tells sound former boot);
+        steps = λ tells sound former boot. steps_for g.S.Stage.KEEPS f shelf air old new former file told (c.replay.ensures.steps tells sound former boot) (c.replay.ensures.steps_left tells sound former boot);
+        lasts = λ tells keeping sound former boot. lasts_for g.S.Stage.KEEPS f shelf air old new former file told (r.lasts keeping tells sound former boot);
+        lasts_unfailed = λ tells keeping sound former boot unfailed.
+            inr (record { box_file = file; told = told; takes = c.in-Ok-replay.ensures.replays.lasts_unfailed (λ is. cc) keeping tells sound former boot });
+        margin = λ tells keeping sound former boot. rw status (verdict_margin v _ (λ none. c.in-Ok-replay.ensures.replays.margin none keeping tells sound former boot));
+        faulted = λ tells keeping is. absurd (no_flash_fault v (sym status ∙ is));
         carried = λ tells ready former boot box_file holds well memory front rest chosen image left within first.
             let installed = c.in-Ok-replay.ensures.replays.carried tells ready former boot well.air_well well.flash_well (λ is. cc)
             front rest chosen image left within (for_box shelf.held box_file file (λ own. CarriesFirst (receiver_at g.S.Stage.KEEPS own flash former) front chosen image) holds told first) in
@@ -150,6 +167,12 @@ returns-in-Err-put_line g c =
     record {
       replays = record {
         at_any_moment = λ tells sound former boot. leaves_for g.S.Stage.KEEPS f shelf air old new former file told (r.at_any_moment tells sound former boot);
+        steps = λ tells sound former boot. steps_for g.S.Stage.KEEPS f shelf air old new former file told (c.replay.ensures.steps tells sound former boot) (c.replay.ensures.steps_left tells sound former boot);
+        lasts = λ tells keeping sound former boot. lasts_for g.S.Stage.KEEPS f shelf air old new former file told (r.lasts keeping tells sound former boot);
+        lasts_unfailed = λ tells keeping sound former boot unfailed.
+            inr (record { box_file = file; told = told; takes = c.in-Ok-replay.ensures.replays.lasts_unfailed (λ is. cc) keeping tells sound former boot });
+        margin = λ tells keeping sound former boot. tt;
+        faulted = λ tells keeping is. absurd cc;
         carried = λ tells ready former boot box_file holds well memory front rest chosen image left within first. absurd (well.out_well failed);
         answers = (failed, (v, record { box_file = file; told = told; ends = ends; prints = c.in-Err-put_line.ensures.prefix }));
         files = reads_written g.S.Stage.IN_BANK g.S.Stage.KEEPS shelf air flash out b.unchanged b.faults b.absences;

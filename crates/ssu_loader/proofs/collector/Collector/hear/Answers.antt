@@ -5,12 +5,15 @@ use Rattle.flash_bank.specs.declared.record.Record.{Record}
 use Rattle.route_tables.specs.Next.{heard_on}
 use Rattle.ssu_route.specs.declared.change.Change.TheVariants as change
 use Rattle.ssu_route.proofs.Choices.{lost_none, one_more_begins}
+use Rattle.ssu_loader.specs.Lasting.{Lasts}
 use Rattle.ssu_loader.specs.Leaving.{SectionsLeave}
 use Rattle.ssu_loader.specs.Life.{HoldsHeard}
 use Rattle.ssu_loader.proofs.CollectingLaws.{goes_ahead, none_collects, undecided_of, with_route}
 use Rattle.ssu_loader.proofs.DecisionLaws.{not_too_many}
 use Rattle.ssu_loader.proofs.HoldingLaws.{holds_itself}
+use Rattle.ssu_loader.proofs.LastingLaws.{lasts_same}
 use Rattle.ssu_loader.proofs.LeftLaws.{left_now}
+use Rattle.ssu_loader.proofs.MarginLaws.{margin_same}
 use Rattle.ssu_loader.proofs.collector.Collector.hear.Goals as goal
 
 pub begin-requires : goal.begin-requires
@@ -213,3 +216,81 @@ returns-in-Same-clause-holds_left g c = λ tells me heard collects.
     change.Same c.hear.result collects
     (ap (λ (r : Record). r.software) c.current.ensures.value) c.hear.ensures.stands c.hear.ensures.change c.in-Same.is in
     c.take.ensures.holds_left tells me heard ahead
+
+-- ---- what stays staged
+
+pub returns-in-Lost-clause-lasts : goal.returns-in-Lost-clause-lasts
+returns-in-Lost-clause-lasts g c = λ keeps tells me heard collects.
+    lasts_same 0 (geometry_of c.args.self.now.bank) me (heard_on c.args.pid c.args.section.now ∷ heard) heard (g.F.Flash.contents c.args.flash.now)
+
+pub returns-in-Lost-clause-lasts_held : goal.returns-in-Lost-clause-lasts_held
+returns-in-Lost-clause-lasts_held g c = λ keeps tells me heard collects.
+    lasts_same 1 (geometry_of c.args.self.now.bank) me (heard_on c.args.pid c.args.section.now ∷ heard) heard (g.F.Flash.contents c.args.flash.now)
+
+pub returns-in-Lost-clause-lasts_left : goal.returns-in-Lost-clause-lasts_left
+returns-in-Lost-clause-lasts_left g c = λ keeps tells me heard collects.
+    let f = g.F.Flash in
+    let x = f.contents c.args.flash.now in
+    let blocks = geometry_of c.args.self.now.bank in
+    let items = heard_on c.args.pid c.args.section.now ∷ heard in
+    left_now f g.met.F.Flash.only_now c.args.flash.now (Lasts 1 blocks me items heard x) (lasts_same 1 blocks me items heard x)
+
+pub returns-in-Chosen-clause-lasts : goal.returns-in-Chosen-clause-lasts
+returns-in-Chosen-clause-lasts g c = λ keeps tells me heard collects.
+    let ahead = goes_ahead g.S.Stage g.F.Flash me heard (heard_on c.args.pid c.args.section.now) c.args.self.now c.hear.new.self c.args.flash.now c.current.result.software
+    change.Chosen c.hear.result collects
+    (ap (λ (r : Record). r.software) c.current.ensures.value) c.hear.ensures.stands c.hear.ensures.change c.in-Chosen.is in
+    c.begin.ensures.lasts keeps tells me (heard_on c.args.pid c.args.section.now) heard ahead
+
+pub returns-in-Chosen-clause-lasts_held : goal.returns-in-Chosen-clause-lasts_held
+returns-in-Chosen-clause-lasts_held g c = λ keeps tells me heard collects.
+    let ahead = goes_ahead g.S.Stage g.F.Flash me heard (heard_on c.args.pid c.args.section.now) c.args.self.now c.hear.new.self c.args.flash.now c.current.result.software
+    change.Chosen c.hear.result collects
+    (ap (λ (r : Record). r.software) c.current.ensures.value) c.hear.ensures.stands c.hear.ensures.change c.in-Chosen.is in
+    c.begin.ensures.lasts_held keeps tells me (heard_on c.args.pid c.args.section.now) heard ahead
+
+pub returns-in-Chosen-clause-lasts_left : goal.returns-in-Chosen-clause-lasts_left
+returns-in-Chosen-clause-lasts_left g c = λ keeps tells me heard collects.
+    let ahead = goes_ahead g.S.Stage g.F.Flash me heard (heard_on c.args.pid c.args.section.now) c.args.self.now c.hear.new.self c.args.flash.now c.current.result.software
+    change.Chosen c.hear.result collects
+    (ap (λ (r : Record). r.software) c.current.ensures.value) c.hear.ensures.stands c.hear.ensures.change c.in-Chosen.is in
+    c.begin.ensures.lasts_left keeps tells me (heard_on c.args.pid c.args.section.now) heard ahead
+
+pub returns-in-Same-clause-lasts : goal.returns-in-Same-clause-lasts
+returns-in-Same-clause-lasts g c = λ keeps tells me heard collects.
+    let ahead = goes_ahead g.S.Stage g.F.Flash me heard (heard_on c.args.pid c.args.section.now) c.args.self.now c.hear.new.self c.args.flash.now c.current.result.software
+    change.Same c.hear.result collects
+    (ap (λ (r : Record). r.software) c.current.ensures.value) c.hear.ensures.stands c.hear.ensures.change c.in-Same.is in
+    c.take.ensures.lasts keeps tells me heard ahead
+
+pub returns-in-Same-clause-lasts_held : goal.returns-in-Same-clause-lasts_held
+returns-in-Same-clause-lasts_held g c = λ keeps tells me heard collects.
+    let ahead = goes_ahead g.S.Stage g.F.Flash me heard (heard_on c.args.pid c.args.section.now) c.args.self.now c.hear.new.self c.args.flash.now c.current.result.software
+    change.Same c.hear.result collects
+    (ap (λ (r : Record). r.software) c.current.ensures.value) c.hear.ensures.stands c.hear.ensures.change c.in-Same.is in
+    c.take.ensures.lasts_held keeps tells me heard ahead
+
+pub returns-in-Same-clause-lasts_left : goal.returns-in-Same-clause-lasts_left
+returns-in-Same-clause-lasts_left g c = λ keeps tells me heard collects.
+    let ahead = goes_ahead g.S.Stage g.F.Flash me heard (heard_on c.args.pid c.args.section.now) c.args.self.now c.hear.new.self c.args.flash.now c.current.result.software
+    change.Same c.hear.result collects
+    (ap (λ (r : Record). r.software) c.current.ensures.value) c.hear.ensures.stands c.hear.ensures.change c.in-Same.is in
+    c.take.ensures.lasts_left keeps tells me heard ahead
+
+pub returns-in-Lost-clause-margin : goal.returns-in-Lost-clause-margin
+returns-in-Lost-clause-margin g c = λ keeps tells me heard collects.
+    margin_same (geometry_of c.args.self.now.bank) (g.F.Flash.contents c.args.flash.now)
+
+pub returns-in-Chosen-clause-margin : goal.returns-in-Chosen-clause-margin
+returns-in-Chosen-clause-margin g c = λ keeps tells me heard collects.
+    let ahead = goes_ahead g.S.Stage g.F.Flash me heard (heard_on c.args.pid c.args.section.now) c.args.self.now c.hear.new.self c.args.flash.now c.current.result.software
+    change.Chosen c.hear.result collects
+    (ap (λ (r : Record). r.software) c.current.ensures.value) c.hear.ensures.stands c.hear.ensures.change c.in-Chosen.is in
+    c.begin.ensures.margin keeps tells me (heard_on c.args.pid c.args.section.now) heard ahead
+
+pub returns-in-Same-clause-margin : goal.returns-in-Same-clause-margin
+returns-in-Same-clause-margin g c = λ keeps tells me heard collects.
+    let ahead = goes_ahead g.S.Stage g.F.Flash me heard (heard_on c.args.pid c.args.section.now) c.args.self.now c.hear.new.self c.args.flash.now c.current.result.software
+    change.Same c.hear.result collects
+    (ap (λ (r : Record). r.software) c.current.ensures.value) c.hear.ensures.stands c.hear.ensures.change c.in-Same.is in
+    c.take.ensures.margin keeps tells me heard ahead

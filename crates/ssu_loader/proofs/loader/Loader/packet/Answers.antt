@@ -10,6 +10,7 @@ use Rattle.ssu_route.specs.Windows.{beginnings}
 use Rattle.ssu_loader.specs.Verdicts.{IsSeen}
 use Rattle.ssu_loader.specs.Collecting.{Collects, StopsBefore}
 use Rattle.flash_bank.specs.Bank.{geometry_of}
+use Rattle.ssu_loader.specs.Lasting.{Lasts}
 use Rattle.ssu_loader.specs.Leaving.{GoesOn, IfUnsettled, SectionsLeave}
 use Rattle.ssu_loader.specs.Life.{HoldsHeard}
 use Rattle.ssu_loader.specs.Starting.{KnowsKept}
@@ -194,3 +195,53 @@ returns-clause-holds_left g c = λ tells me ps follows.
     let f = g.F.Flash in
     subst (λ (items : List Heard). LeavesOnly f.moment f.left_since c.args.flash.now c.hear_each.new.flash (HoldsHeard (geometry_of c.args.self.now.collector.bank) me items (f.contents c.args.flash.now))) more
     (c.hear_each.ensures.holds_left tells me (heard_by me ps) follows.collects)
+
+-- ---- what stays staged
+
+pub returns-clause-lasts : goal.returns-clause-lasts
+returns-clause-lasts g c = λ keeps tells me ps follows.
+    let packet = c.args.packet.now in
+    let each = c.feed.ensures.heard (followed me ps) follows.hears in
+    let more = packet_heard me packet ps c.feed.new.each c.pid_of.result c.pid_of.ensures each in
+    let f = g.F.Flash in
+    subst (λ (items : List Heard). Lasts 0 (geometry_of c.args.self.now.collector.bank) me items (heard_by me ps) (f.contents c.args.flash.now) (f.contents c.hear_each.new.flash)) more
+    (c.in_ok-answer.ensures.lasts keeps tells me (heard_by me ps) follows.collects)
+
+pub returns-in_err-answer-clause-lasts_held : goal.returns-in_err-answer-clause-lasts_held
+returns-in_err-answer-clause-lasts_held g c = λ keeps tells me ps follows.
+    let packet = c.args.packet.now in
+    let each = c.feed.ensures.heard (followed me ps) follows.hears in
+    let more = packet_heard me packet ps c.feed.new.each c.pid_of.result c.pid_of.ensures each in
+    let f = g.F.Flash in
+    subst (λ (items : List Heard). Lasts 1 (geometry_of c.args.self.now.collector.bank) me items (heard_by me ps) (f.contents c.args.flash.now) (f.contents c.hear_each.new.flash)) more
+    (c.hear_each.ensures.lasts_held keeps tells me (heard_by me ps) follows.collects)
+
+pub returns-in_err-answer-clause-lasts_left : goal.returns-in_err-answer-clause-lasts_left
+returns-in_err-answer-clause-lasts_left g c = λ keeps tells me ps follows.
+    let packet = c.args.packet.now in
+    let each = c.feed.ensures.heard (followed me ps) follows.hears in
+    let more = packet_heard me packet ps c.feed.new.each c.pid_of.result c.pid_of.ensures each in
+    let f = g.F.Flash in
+    subst (λ (items : List Heard). LeavesOnly f.moment f.left_since c.args.flash.now c.hear_each.new.flash (Lasts 1 (geometry_of c.args.self.now.collector.bank) me items (heard_by me ps) (f.contents c.args.flash.now))) more
+    (c.hear_each.ensures.lasts_left keeps tells me (heard_by me ps) follows.collects)
+
+pub returns-clause-lasts_held : goal.returns-clause-lasts_held
+returns-clause-lasts_held g c = λ keeps tells me ps follows.
+    let packet = c.args.packet.now in
+    let each = c.feed.ensures.heard (followed me ps) follows.hears in
+    let more = packet_heard me packet ps c.feed.new.each c.pid_of.result c.pid_of.ensures each in
+    let f = g.F.Flash in
+    subst (λ (items : List Heard). Lasts 1 (geometry_of c.args.self.now.collector.bank) me items (heard_by me ps) (f.contents c.args.flash.now) (f.contents c.hear_each.new.flash)) more
+    (c.hear_each.ensures.lasts_held keeps tells me (heard_by me ps) follows.collects)
+
+pub returns-clause-lasts_left : goal.returns-clause-lasts_left
+returns-clause-lasts_left g c = λ keeps tells me ps follows.
+    let packet = c.args.packet.now in
+    let each = c.feed.ensures.heard (followed me ps) follows.hears in
+    let more = packet_heard me packet ps c.feed.new.each c.pid_of.result c.pid_of.ensures each in
+    let f = g.F.Flash in
+    subst (λ (items : List Heard). LeavesOnly f.moment f.left_since c.args.flash.now c.hear_each.new.flash (Lasts 1 (geometry_of c.args.self.now.collector.bank) me items (heard_by me ps) (f.contents c.args.flash.now))) more
+    (c.hear_each.ensures.lasts_left keeps tells me (heard_by me ps) follows.collects)
+
+pub returns-clause-margin : goal.returns-clause-margin
+returns-clause-margin g c = λ keeps tells me ps follows. c.in_ok-answer.ensures.margin keeps tells me (heard_by me ps) follows.collects
