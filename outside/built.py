@@ -20,7 +20,6 @@ import tomllib
 import tables
 
 
-
 def expected_tables(plan):
     """The tables of the plan, with their fields as tables.py writes them."""
     ts, network, service = plan["ts"], plan["network"], plan["service"]

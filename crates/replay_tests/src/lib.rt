@@ -6,6 +6,8 @@ mod broadcast_tests;
 #[cfg(test)]
 mod check;
 #[cfg(test)]
+mod commands;
+#[cfg(test)]
 mod night_tests;
 #[cfg(test)]
 pub mod public_names;

@@ -1,12 +1,14 @@
 //! A night's update of 4 MB, of which some packets are lost on the way, to a box that takes it in a window.
 
 use crate::check::same;
+use crate::commands::outcome_on;
 use flash_bank::format;
 use flash_dev::SureFlash;
 use ssu_compat::SwId;
-use ssu_io::{MemShelf, MemSink, MemSource};
-use ssu_tool::{Status, run};
+use ssu_io::MemShelf;
+use ssu_tool::Status;
 use std::alloc::Global;
+use std::process::Abort;
 use std::test::Fail;
 
 const BOX: &str = "oui = 4660
@@ -78,34 +80,18 @@ fn joined(alloc: Global) -> Result<Vec<u8>, Fail> {
     Ok(joined)
 }
 
-/// What came of a command, what it printed and what it made.
-#[derive(Drop)]
-struct Outcome {
-    status: Status,
-    put: Vec<u8>,
-    made: Vec<u8>,
-}
-
-/// Runs a command on these packets.
-fn outcome_of(
+/// The packets of the update that come over the air.
+fn aired(
+    rt: &impl Abort,
     alloc: Global,
-    command: &str,
     shelf: &mut MemShelf,
-    air: Vec<u8>,
     flash: &mut SureFlash,
-) -> Result<Outcome, Fail> {
-    let mut words = Vec::new(alloc);
-    words.push(String::from_str(alloc, "folder")?)?;
-    words.push(String::from_str(alloc, command)?)?;
-    let mut air = MemSource::new(air, 65_536, Vec::new(alloc));
-    let mut made = MemSink::new(alloc, Vec::new(alloc));
-    let mut out = MemSink::new(alloc, Vec::new(alloc));
-    let status = run(alloc, &words, shelf, &mut air, flash, &mut made, &mut out);
-    Ok(Outcome {
-        status,
-        put: out.into_bytes(),
-        made: made.into_bytes(),
-    })
+) -> Result<Vec<u8>, Fail> {
+    let built = outcome_on(alloc, &["folder", "build"], shelf, &[], flash)?;
+    assert!(rt; built.put.starts_with("sections 1040 packets ".as_bytes()));
+    let aired = outcome_on(alloc, &["folder", "air"], shelf, &built.made, flash)?;
+    same(rt, &aired.status, &Status::Done);
+    Ok(aired.made)
 }
 
 #[test]
@@ -142,14 +128,13 @@ fn a_nights_update_is_installed_in_its_window(rt: HostRuntime) -> Result<(), Fai
         if format(&mut flash, OLD, SwId { model: 1, version }).is_err() {
             return Err("it is not formatted".into());
         }
-        let built = outcome_of(alloc, "build", &mut shelf, Vec::new(alloc), &mut flash)?;
-        assert!(rt; built.put.starts_with("sections 1040 packets ".as_bytes()));
-        let aired = outcome_of(alloc, "air", &mut shelf, built.made, &mut flash)?;
-        same(&rt, &aired.status, &Status::Done);
-        let replayed = outcome_of(alloc, "replay", &mut shelf, aired.made, &mut flash)?;
+        let packets = aired(&rt, alloc, &mut shelf, &mut flash)?;
+        let words = ["folder", "replay"];
+        let replayed = outcome_on(alloc, &words, &mut shelf, &packets, &mut flash)?;
         same(&rt, &replayed.status.code(), &code);
         same(&rt, &replayed.put.as_slice(), &line.as_bytes());
-        let booted = outcome_of(alloc, "boot", &mut shelf, Vec::new(alloc), &mut flash)?;
+        let words = ["folder", "boot"];
+        let booted = outcome_on(alloc, &words, &mut shelf, &[], &mut flash)?;
         same(&rt, &booted.status, &Status::Done);
         let image = if is_updated { joined.as_slice() } else { OLD };
         same(&rt, &booted.made.as_slice(), &image);

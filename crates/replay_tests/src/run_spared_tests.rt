@@ -1,6 +1,7 @@
 //! The commands of a flash with `spares S` behind their words, over a flash in memory whose calls fail.
 
 use crate::check::same;
+use crate::commands::file_of;
 use flash_dev::{MemFlash, Tear};
 use flash_remap::Remap;
 use ssu_io::{MemShelf, MemSink, MemSource};
@@ -39,11 +40,7 @@ const OLD: &[u8] = b"old";
 
 /// A file of 2,500 bytes.
 fn file(alloc: Global) -> Result<Vec<u8>, AllocError> {
-    let mut bytes = Vec::new(alloc);
-    for k in 0..2500u32 {
-        bytes.push((k % 251) as u8)?;
-    }
-    Ok(bytes)
+    file_of(alloc, 0, 2500)
 }
 
 /// A shelf with the box, the old image, and the plan with its file.

@@ -3,11 +3,13 @@
 ghost use Rattle.std.specs.Prelude.{◌+◌, ◌≤◌};
 
 use crate::check::same;
-use flash_dev::{Flash, SureFlash};
+use crate::commands::{Outcome, done, outcome_on, owned};
+use flash_dev::SureFlash;
 use ssu_io::{MemShelf, MemSink, MemSource};
 use ssu_status::Status;
 use ssu_tool::run;
 use std::alloc::{AllocError, Global};
+use std::process::Abort;
 use std::test::Fail;
 use ts_crc::crc;
 use ts_packet::Pid;
@@ -24,21 +26,6 @@ const PAT_PACKET: [u8; 21] = [
     0x00, 0x2A, 0xB1, 0x04, 0xB2,
 ];
 
-#[derive(Drop)]
-struct Outcome {
-    status: Status,
-    put: Vec<u8>,
-    made: Vec<u8>,
-}
-
-fn owned(alloc: Global, words: &[&str]) -> Result<Vec<String>, AllocError> {
-    let mut list = Vec::new(alloc);
-    for word in words {
-        list.push(String::from_str(alloc, word)?)?;
-    }
-    Ok(list)
-}
-
 /// The bytes, filled up to a packet.
 fn add_packet(bytes: &mut Vec<u8>, front: &[u8]) -> Result<(), AllocError> {
     bytes.extend_from_slice(front)?;
@@ -48,17 +35,18 @@ fn add_packet(bytes: &mut Vec<u8>, front: &[u8]) -> Result<(), AllocError> {
     Ok(())
 }
 
+/// A command over no file, these packets and a blank flash, where calls of the packets and of the output fail.
 fn outcome_of(
     alloc: Global,
     words: &[&str],
-    air: Vec<u8>,
+    packets: &[u8],
     fails: &[u32],
     sink_fails: &[u32],
-) -> Result<Outcome, AllocError> {
-    let mut shelf = MemShelf::new(alloc, Vec::new(alloc));
-    let mut flash = SureFlash::blank(alloc, 4, 256).map_err(|_| AllocError)?;
+) -> Result<Outcome, Fail> {
     let words = owned(alloc, words)?;
-    let mut air = MemSource::new(air, 1000, fails.to_vec(alloc)?);
+    let mut shelf = MemShelf::new(alloc, Vec::new(alloc));
+    let mut flash = SureFlash::blank(alloc, 4, 256)?;
+    let mut air = MemSource::new(packets.to_vec(alloc)?, 1000, fails.to_vec(alloc)?);
     let mut made = MemSink::new(alloc, Vec::new(alloc));
     let mut out = MemSink::new(alloc, sink_fails.to_vec(alloc)?);
     let status = run(
@@ -71,24 +59,19 @@ fn outcome_of(
     })
 }
 
-/// A command over the files of a shelf and a flash.
-fn outcome_on<F: Flash>(
+/// Hears the sections of a PID, which are put.
+fn hears(
+    rt: &impl Abort,
     alloc: Global,
-    words: &[&str],
-    shelf: &mut MemShelf,
-    air: Vec<u8>,
-    flash: &mut F,
-) -> Result<Outcome, AllocError> {
-    let words = owned(alloc, words)?;
-    let mut air = MemSource::new(air, 65_536, Vec::new(alloc));
-    let mut made = MemSink::new(alloc, Vec::new(alloc));
-    let mut out = MemSink::new(alloc, Vec::new(alloc));
-    let status = run(alloc, &words, shelf, &mut air, flash, &mut made, &mut out);
-    Ok(Outcome {
-        status,
-        put: out.into_bytes(),
-        made: made.into_bytes(),
-    })
+    pid: &str,
+    packets: &[u8],
+    put: &[u8],
+) -> Result<(), Fail> {
+    let outcome = outcome_of(alloc, &["folder", "hear", pid], packets, &[], &[])?;
+    same(rt, &(pid, outcome.status), &(pid, Status::Done));
+    same(rt, &(pid, outcome.put.as_slice()), &(pid, put));
+    assert!(rt; outcome.made.is_empty());
+    Ok(())
 }
 
 #[test]
@@ -98,21 +81,16 @@ fn hear_puts_the_sections_of_its_pid(rt: HostRuntime) -> Result<(), Fail> {
     add_packet(&mut air, &TDT_PACKET)?;
     add_packet(&mut air, &PAT_PACKET)?;
     air.extend_from_slice(&[0x47; 100])?;
-    // words, what is put
-    let rows: [(&str, &[u8]); 3] = [
-        ("20", &TDT_PACKET[5..]),
-        ("0", &PAT_PACKET[5..]),
-        ("21", &[]),
+    // the PID, the packets, what is put
+    let rows: [(&str, &[u8], &[u8]); 4] = [
+        ("20", &air, &TDT_PACKET[5..]),
+        ("0", &air, &PAT_PACKET[5..]),
+        ("21", &air, &[]),
+        ("0", &[], &[]),
     ];
-    for (pid, put) in rows {
-        let outcome = outcome_of(alloc, &["folder", "hear", pid], air.clone()?, &[], &[])?;
-        same(&rt, &(pid, outcome.status), &(pid, Status::Done));
-        same(&rt, &(pid, outcome.put.as_slice()), &(pid, put));
-        assert!(rt; outcome.made.is_empty());
+    for (pid, packets, put) in rows {
+        hears(&rt, alloc, pid, packets, put)?;
     }
-    let outcome = outcome_of(alloc, &["folder", "hear", "0"], Vec::new(alloc), &[], &[])?;
-    same(&rt, &outcome.status, &Status::Done);
-    assert!(rt; outcome.put.is_empty());
     Ok(())
 }
 
@@ -131,7 +109,7 @@ fn faults_are_told_from_each_other(rt: HostRuntime) -> Result<(), Fail> {
         (&["folder", "hear", "20"], &[], &[1], Status::WriteFault, 0),
     ];
     for (words, fails, sink_fails, status, put) in rows {
-        let outcome = outcome_of(alloc, words, air.clone()?, fails, sink_fails)?;
+        let outcome = outcome_of(alloc, words, &air, fails, sink_fails)?;
         same(&rt, &outcome.status, &status);
         same(&rt, &outcome.put.len(), &put);
     }
@@ -162,10 +140,7 @@ fn random_bytes_and_unusable_packets_are_passed_over(rt: HostRuntime) -> Result<
         add_packet(&mut air, &packet)?;
     }
     add_packet(&mut air, &TDT_PACKET)?;
-    let outcome = outcome_of(alloc, &["folder", "hear", "20"], air, &[], &[])?;
-    same(&rt, &outcome.status, &Status::Done);
-    same(&rt, &outcome.put.as_slice(), &&TDT_PACKET[5..]);
-    Ok(())
+    hears(&rt, alloc, "20", &air, &TDT_PACKET[5..])
 }
 
 #[test]
@@ -184,16 +159,12 @@ fn a_pat_is_heard_unless_a_bit_of_it_changed(rt: HostRuntime) -> Result<(), Fail
     assert!(rt; section[0] == 0x00);
     let mut air = Vec::new(alloc);
     let _counter = cut(&section, Pid::new(0).expect(&rt, "a PID"), 0, &mut air)?;
-    let heard = outcome_of(alloc, &["folder", "hear", "0"], air.clone()?, &[], &[])?;
-    same(&rt, &heard.status, &Status::Done);
-    same(&rt, &heard.put.as_slice(), &section.as_slice());
+    hears(&rt, alloc, "0", &air, &section)?;
     for place in 5..21usize {
         let mut changed = air.clone()?;
         assert!(rt; changed.len() == 188);
         changed[place] ^= 0x10;
-        let heard = outcome_of(alloc, &["folder", "hear", "0"], changed, &[], &[])?;
-        same(&rt, &heard.status, &Status::Done);
-        assert!(rt; heard.put.is_empty(), "place {place}");
+        hears(&rt, alloc, "0", &changed, &[])?;
     }
     Ok(())
 }
@@ -248,28 +219,30 @@ fn a_built_stream_is_found_and_loaded(rt: HostRuntime) -> Result<(), Fail> {
     let alloc = rt.alloc();
     let mut shelf = shelf_with(alloc, PLAN)?;
     let mut flash = SureFlash::blank(alloc, 4, 256)?;
-    let none = Vec::new(alloc);
-    let built = outcome_on(alloc, &["folder", "build"], &mut shelf, none, &mut flash)?;
-    same(&rt, &built.status, &Status::Done);
-    same(
+    let line = "sections 7 packets 40\n";
+    let air = done(
         &rt,
-        &built.put.as_slice(),
-        &"sections 7 packets 40\n".as_bytes(),
-    );
-    same(&rt, &built.made.len(), &(40 * 188usize));
-    let air = built.made.clone()?;
-    let found = outcome_on(alloc, &["folder", "find"], &mut shelf, air, &mut flash)?;
-    same(&rt, &found.status, &Status::Done);
-    same(&rt, &found.put.as_slice(), &FOUND.as_bytes());
-    let words = ["folder", "load", "258"];
-    let loaded = outcome_on(alloc, &words, &mut shelf, built.made, &mut flash)?;
-    same(&rt, &loaded.status, &Status::Done);
-    same(
+        alloc,
+        &["folder", "build"],
+        &mut shelf,
+        &[],
+        &mut flash,
+        line,
+    )?;
+    same(&rt, &air.len(), &(40 * 188usize));
+    done(
         &rt,
-        &loaded.put.as_slice(),
-        &"loaded group 2147483650 bytes 9\n".as_bytes(),
-    );
-    same(&rt, &loaded.made.as_slice(), &"123456789".as_bytes());
+        alloc,
+        &["folder", "find"],
+        &mut shelf,
+        &air,
+        &mut flash,
+        FOUND,
+    )?;
+    let line = "loaded group 2147483650 bytes 9\n";
+    let load = ["folder", "load", "258"];
+    let loaded = done(&rt, alloc, &load, &mut shelf, &air, &mut flash, line)?;
+    same(&rt, &loaded.as_slice(), &"123456789".as_bytes());
     Ok(())
 }
 
@@ -323,49 +296,37 @@ fn with_zeros(packets: &[u8], module_crc: [u8; 4]) -> Result<[u8; FIRST_LEN], Fa
     Ok(changed)
 }
 
-#[test]
-fn a_built_stream_that_was_changed_is_not_loaded(rt: HostRuntime) -> Result<(), Fail> {
-    let alloc = rt.alloc();
-    let mut shelf = shelf_with(alloc, PLAN)?;
-    let mut flash = SureFlash::blank(alloc, 4, 256)?;
-    let none = Vec::new(alloc);
-    let built = outcome_on(alloc, &["folder", "build"], &mut shelf, none, &mut flash)?;
-    let (Some(packets), Some(without_block)) = (
-        built.made.get(..FIRST_LEN),
-        built.made.get(..6 * 188),
-    ) else {
-        return Err("not seven packets".into());
-    };
-    // What is loaded, the exit code and the line.
-    let rows: [(&[u8], u8, &str); 3] = [
-        (packets, 0, "loaded group 2147483650 bytes 9\n"),
-        (
-            &with_zeros(packets, [0x03, 0x76, 0xE6, 0xE7])?,
-            8,
-            "bad module 1 want 00000000 found 0376e6e7\n",
-        ),
-        (without_block, 7, "incomplete group 2147483650 missing 1\n"),
-    ];
-    for (air, code, line) in rows {
-        let air = air.to_vec(alloc)?;
-        let words = ["folder", "load", "258"];
-        let loaded = outcome_on(alloc, &words, &mut shelf, air, &mut flash)?;
-        same(&rt, &loaded.status.code(), &code);
-        same(&rt, &loaded.put.as_slice(), &line.as_bytes());
-        same(&rt, &loaded.made.is_empty(), &(code != 0));
-    }
-    Ok(())
-}
-
 /// The packets of the plan, where a.bin has this text.
 fn built_of(alloc: Global, text: &str) -> Result<Vec<u8>, Fail> {
     let mut shelf = MemShelf::new(alloc, Vec::new(alloc));
     shelf.add("plan.toml", PLAN.as_bytes().to_vec(alloc)?)?;
     shelf.add("a.bin", text.as_bytes().to_vec(alloc)?)?;
     let mut flash = SureFlash::blank(alloc, 4, 256)?;
-    let none = Vec::new(alloc);
-    let built = outcome_on(alloc, &["folder", "build"], &mut shelf, none, &mut flash)?;
+    let built = outcome_on(alloc, &["folder", "build"], &mut shelf, &[], &mut flash)?;
     Ok(built.made)
+}
+
+#[test]
+fn a_built_stream_that_was_changed_is_not_loaded(rt: HostRuntime) -> Result<(), Fail> {
+    let alloc = rt.alloc();
+    let built = built_of(alloc, "123456789")?;
+    let (Some(packets), Some(without_block)) = (built.get(..FIRST_LEN), built.get(..6 * 188)) else {
+        return Err("not seven packets".into());
+    };
+    let zeros = with_zeros(packets, [0x03, 0x76, 0xE6, 0xE7])?;
+    // What is loaded, the exit code and the line.
+    let rows: [(&[u8], u8, &str); 3] = [
+        (packets, 0, "loaded group 2147483650 bytes 9\n"),
+        (&zeros, 8, "bad module 1 want 00000000 found 0376e6e7\n"),
+        (without_block, 7, "incomplete group 2147483650 missing 1\n"),
+    ];
+    for (air, code, line) in rows {
+        let loaded = outcome_of(alloc, &["folder", "load", "258"], air, &[], &[])?;
+        same(&rt, &loaded.status.code(), &code);
+        same(&rt, &loaded.put.as_slice(), &line.as_bytes());
+        same(&rt, &loaded.made.is_empty(), &(code != 0));
+    }
+    Ok(())
 }
 
 #[test]
@@ -393,7 +354,7 @@ fn a_built_stream_is_audited(rt: HostRuntime) -> Result<(), Fail> {
     for (air, behind, code, line) in rows {
         let mut packets = air.to_vec(alloc)?;
         packets.extend_from_slice(behind)?;
-        let audited = outcome_of(alloc, &["folder", "audit", "258"], packets, &[], &[])?;
+        let audited = outcome_of(alloc, &["folder", "audit", "258"], &packets, &[], &[])?;
         same(&rt, &audited.status.code(), &code);
         same(&rt, &audited.put.as_slice(), &line.as_bytes());
         assert!(rt; audited.made.is_empty());
@@ -471,13 +432,16 @@ fn a_level_ends_where_its_section_is_left_out(rt: HostRuntime) -> Result<(), Fai
     let alloc = rt.alloc();
     let mut shelf = shelf_with(alloc, NOTICE)?;
     let mut flash = SureFlash::blank(alloc, 4, 256)?;
-    let none = Vec::new(alloc);
-    let built = outcome_on(alloc, &["folder", "build"], &mut shelf, none, &mut flash)?;
-    same(
+    let line = "sections 8 packets 8\n";
+    let built = done(
         &rt,
-        &built.put.as_slice(),
-        &"sections 8 packets 8\n".as_bytes(),
-    );
+        alloc,
+        &["folder", "build"],
+        &mut shelf,
+        &[],
+        &mut flash,
+        line,
+    )?;
     // The packet that is left out (NIT, PAT, PMT, UNT, TDT, DSI, DII, DDB), and how many levels have a value then.
     let rows = [
         (0usize, 0usize),
@@ -490,8 +454,8 @@ fn a_level_ends_where_its_section_is_left_out(rt: HostRuntime) -> Result<(), Fai
         (7, 7),
     ];
     for (left_out, levels) in rows {
-        let air = without(alloc, &built.made, left_out)?;
-        let found = outcome_on(alloc, &["folder", "find"], &mut shelf, air, &mut flash)?;
+        let air = without(alloc, &built, left_out)?;
+        let found = outcome_on(alloc, &["folder", "find"], &mut shelf, &air, &mut flash)?;
         same(&rt, &found.status, &Status::Done);
         same(
             &rt,
@@ -507,33 +471,26 @@ fn a_formatted_flash_is_booted(rt: HostRuntime) -> Result<(), Fail> {
     let alloc = rt.alloc();
     let mut shelf = shelf_with(alloc, PLAN)?;
     let mut flash = SureFlash::blank(alloc, 4, 4096)?;
-    let none = Vec::new(alloc);
-    let blank = outcome_on(
-        alloc,
-        &["folder", "blank", "4"],
-        &mut shelf,
-        none,
-        &mut flash,
-    )?;
-    same(&rt, &blank.put.as_slice(), &"blank 4\n".as_bytes());
-    same(&rt, &blank.made.len(), &(4 * 4096usize));
-    same(&rt, &blank.made.as_slice(), &flash.contents());
-    let none = Vec::new(alloc);
-    let foreign = outcome_on(alloc, &["folder", "boot"], &mut shelf, none, &mut flash)?;
+    let blank = ["folder", "blank", "4"];
+    let blank = done(&rt, alloc, &blank, &mut shelf, &[], &mut flash, "blank 4\n")?;
+    same(&rt, &blank.len(), &(4 * 4096usize));
+    same(&rt, &blank.as_slice(), &flash.contents());
+    let foreign = outcome_on(alloc, &["folder", "boot"], &mut shelf, &[], &mut flash)?;
     same(&rt, &foreign.status, &Status::Foreign);
-    let words = ["folder", "format", "a.bin"];
-    let none = Vec::new(alloc);
-    let formatted = outcome_on(alloc, &words, &mut shelf, none, &mut flash)?;
-    same(
+    let format = ["folder", "format", "a.bin"];
+    let line = "formatted bytes 9\n";
+    done(&rt, alloc, &format, &mut shelf, &[], &mut flash, line)?;
+    let line = "boot bank 0 number 1 software 1.1 bytes 9\n";
+    let image = done(
         &rt,
-        &formatted.put.as_slice(),
-        &"formatted bytes 9\n".as_bytes(),
-    );
-    let none = Vec::new(alloc);
-    let booted = outcome_on(alloc, &["folder", "boot"], &mut shelf, none, &mut flash)?;
-    same(&rt, &booted.made.as_slice(), &"123456789".as_bytes());
-    let line = "boot bank 0 number 1 software 1.1 bytes 9\n".as_bytes();
-    same(&rt, &booted.put.as_slice(), &line);
+        alloc,
+        &["folder", "boot"],
+        &mut shelf,
+        &[],
+        &mut flash,
+        line,
+    )?;
+    same(&rt, &image.as_slice(), &"123456789".as_bytes());
     Ok(())
 }
 
@@ -542,32 +499,47 @@ fn a_built_stream_is_installed_and_booted(rt: HostRuntime) -> Result<(), Fail> {
     let alloc = rt.alloc();
     let mut shelf = shelf_with(alloc, PLAN)?;
     let mut flash = SureFlash::blank(alloc, 4, 4096)?;
-    let none = Vec::new(alloc);
-    let built = outcome_on(alloc, &["folder", "build"], &mut shelf, none, &mut flash)?;
-    same(&rt, &built.status, &Status::Done);
+    let line = "sections 7 packets 40\n";
+    let air = done(
+        &rt,
+        alloc,
+        &["folder", "build"],
+        &mut shelf,
+        &[],
+        &mut flash,
+        line,
+    )?;
     // box.toml is the old image
-    let words = ["folder", "format", "box.toml"];
-    let none = Vec::new(alloc);
-    let formatted = outcome_on(alloc, &words, &mut shelf, none, &mut flash)?;
-    same(&rt, &formatted.status, &Status::Done);
-    let words = ["folder", "replay"];
-    let replayed = outcome_on(alloc, &words, &mut shelf, built.made, &mut flash)?;
-    same(&rt, &replayed.status.code(), &0);
-    let line = "installed group 2147483650 software 1.2 bytes 9\n".as_bytes();
-    same(&rt, &replayed.put.as_slice(), &line);
-    assert!(rt; replayed.made.is_empty());
-    let none = Vec::new(alloc);
-    let booted = outcome_on(alloc, &["folder", "boot"], &mut shelf, none, &mut flash)?;
-    same(&rt, &booted.made.as_slice(), &"123456789".as_bytes());
-    let line = "boot bank 1 number 2 software 1.2 bytes 9\n".as_bytes();
-    same(&rt, &booted.put.as_slice(), &line);
+    let format = ["folder", "format", "box.toml"];
+    let line = "formatted bytes 88\n";
+    done(&rt, alloc, &format, &mut shelf, &[], &mut flash, line)?;
+    let line = "installed group 2147483650 software 1.2 bytes 9\n";
+    let made = done(
+        &rt,
+        alloc,
+        &["folder", "replay"],
+        &mut shelf,
+        &air,
+        &mut flash,
+        line,
+    )?;
+    assert!(rt; made.is_empty());
+    let line = "boot bank 1 number 2 software 1.2 bytes 9\n";
+    let image = done(
+        &rt,
+        alloc,
+        &["folder", "boot"],
+        &mut shelf,
+        &[],
+        &mut flash,
+        line,
+    )?;
+    same(&rt, &image.as_slice(), &"123456789".as_bytes());
     Ok(())
 }
 
-#[test]
-fn the_first_sixteen_of_seventeen_services_are_kept(rt: HostRuntime) -> Result<(), Fail> {
-    let alloc = rt.alloc();
-    // A first loop of 17 linkages of type 0x09 for the OUI 4660, and no entry.
+/// A first loop of 17 linkages of type 0x09 for the OUI 4660, and no entry.
+fn linkages(alloc: Global) -> Result<Vec<u8>, AllocError> {
     let mut body = [0xF0, 238].to_vec(alloc)?;
     for service in 1..18u8 {
         body.extend_from_slice(&[
@@ -575,6 +547,13 @@ fn the_first_sixteen_of_seventeen_services_are_kept(rt: HostRuntime) -> Result<(
         ])?;
     }
     body.extend_from_slice(&[0xF0, 0])?;
+    Ok(body)
+}
+
+#[test]
+fn the_first_sixteen_of_seventeen_services_are_kept(rt: HostRuntime) -> Result<(), Fail> {
+    let alloc = rt.alloc();
+    let body = linkages(alloc)?;
     assert!(rt; body.len() == 242);
     let head = LongForm {
         table: 0x40,
@@ -591,7 +570,7 @@ fn the_first_sixteen_of_seventeen_services_are_kept(rt: HostRuntime) -> Result<(
     let _counter = cut(&section, Pid::new(0x10).expect(&rt, "a PID"), 0, &mut air)?;
     let mut shelf = shelf_with(alloc, PLAN)?;
     let mut flash = SureFlash::blank(alloc, 4, 256)?;
-    let found = outcome_on(alloc, &["folder", "find"], &mut shelf, air, &mut flash)?;
+    let found = outcome_on(alloc, &["folder", "find"], &mut shelf, &air, &mut flash)?;
     same(&rt, &found.status, &Status::Done);
     assert!(rt; found.put.starts_with("1 services 16\n2 none\n".as_bytes()));
     Ok(())
@@ -624,8 +603,7 @@ boot bank 1 number 2 software 1.2 bytes 93000
         ),
     ];
     for (number, lines) in rows {
-        let words = ["folder", "sample", number];
-        let outcome = outcome_of(alloc, &words, Vec::new(alloc), &[], &[])?;
+        let outcome = outcome_of(alloc, &["folder", "sample", number], &[], &[], &[])?;
         same(&rt, &outcome.status, &Status::Done);
         same(&rt, &outcome.put.as_slice(), &lines.as_bytes());
         assert!(rt; outcome.made.is_empty());

@@ -2,6 +2,7 @@
 //! loop goes on until the run does not meet the call, and so ends by itself.
 
 use crate::check::same;
+use crate::commands::{holding, owned};
 use flash_bank::{boot, format};
 use flash_dev::{MemFlash, Tear};
 use ssu_compat::SwId;
@@ -41,9 +42,6 @@ const OLD: &[u8] = b"old";
 
 /// The length of the new image.
 const NEW_LEN: usize = 20_000;
-
-/// The length of the larger flash, which has 520 blocks.
-const MOST_LEN: usize = 520 * 4096;
 
 /// More calls than any run makes of one object.
 const MOST: u32 = 600;
@@ -96,14 +94,6 @@ fn shelf_of(alloc: Global, fails: Vec<u32>) -> Result<MemShelf, Fail> {
     Ok(shelf)
 }
 
-/// A flash with these contents.
-fn holding(alloc: Global, contents: &[u8]) -> Result<MemFlash, Fail> {
-    if contents.len() > MOST_LEN || contents.len() % 4096 != 0 {
-        return Err("not whole blocks of a flash".into());
-    }
-    Ok(MemFlash::holding(alloc, contents, 4096, MOST)?)
-}
-
 /// The contents of a flash of 22 blocks with the old image, which is of layout 1.
 fn small(alloc: Global) -> Result<Vec<u8>, Fail> {
     formatted(alloc, MemFlash::blank(alloc, 22, 4096, MOST)?)
@@ -136,18 +126,14 @@ struct Outcome {
 /// Runs a command over a flash with these contents, where the call of this number, from 1, is harmed.
 fn outcome_of(
     alloc: Global,
-    command: &[&str],
+    words: &[&str],
     air: &[u8],
     held: &[u8],
     harm: Harm,
     call: u32,
 ) -> Result<Outcome, Fail> {
-    let mut words = Vec::new(alloc);
-    words.push(String::from_str(alloc, "folder")?)?;
-    for word in command {
-        words.push(String::from_str(alloc, word)?)?;
-    }
-    let mut flash = holding(alloc, held)?;
+    let words = owned(alloc, words)?;
+    let mut flash = holding(alloc, held, MOST)?;
     match harm {
         Harm::Fails(tear) => flash.fail_at(call, tear)?,
         Harm::Stops(tear) => flash.stop_at(call, tear),
@@ -173,7 +159,7 @@ fn outcome_of(
 /// The packets of the plan.
 fn packets(alloc: Global) -> Result<Vec<u8>, Fail> {
     let held = small(alloc)?;
-    let built = outcome_of(alloc, &["build"], &[], &held, Harm::None, 1)?;
+    let built = outcome_of(alloc, &["folder", "build"], &[], &held, Harm::None, 1)?;
     if built.status != Status::Done {
         return Err("it is not built".into());
     }
@@ -182,7 +168,7 @@ fn packets(alloc: Global) -> Result<Vec<u8>, Fail> {
 
 /// Whether boot takes the new image of a flash with these contents. Any other one than this and the old one is a failure.
 fn boots_new(alloc: Global, held: &[u8]) -> Result<bool, Fail> {
-    let mut flash = holding(alloc, held)?;
+    let mut flash = holding(alloc, held, MOST)?;
     let mut image = MemSink::new(alloc, Vec::new(alloc));
     boot(&mut flash, &mut image)?;
     if image.bytes() == OLD {
@@ -205,7 +191,7 @@ fn sweep(
 ) -> Result<u32, Fail> {
     let mut is_new = false;
     for call in 1..MOST {
-        let outcome = outcome_of(alloc, &["replay"], air, start, harm, call)?;
+        let outcome = outcome_of(alloc, &["folder", "replay"], air, start, harm, call)?;
         if matches!(outcome.status, Status::Installed(_)) {
             assert!(rt; boots_new(alloc, &outcome.held)?);
             return Ok(call - 1);
@@ -215,7 +201,14 @@ fn sweep(
         // the new image was there one call ago, so that was the last one
         assert!(rt; !is_new);
         is_new = boots_new(alloc, &outcome.held)?;
-        let again = outcome_of(alloc, &["replay"], air, &outcome.held, Harm::None, 1)?;
+        let again = outcome_of(
+            alloc,
+            &["folder", "replay"],
+            air,
+            &outcome.held,
+            Harm::None,
+            1,
+        )?;
         assert!(rt; matches!(again.status, Status::Installed(_)));
         assert!(rt; boots_new(alloc, &again.held)?);
     }
@@ -264,16 +257,16 @@ fn each_call_of_a_flash_with_a_journal_fails_in_turn(rt: HostRuntime) -> Result<
 fn each_fails(
     rt: &impl Abort,
     alloc: Global,
-    command: &[&str],
+    words: &[&str],
     air: &[u8],
     object: Object,
     fault: Status,
 ) -> Result<(), Fail> {
     let start = small(alloc)?;
     let harm = Harm::Of(object);
-    let whole = outcome_of(alloc, command, air, &start, Harm::None, 1)?;
+    let whole = outcome_of(alloc, words, air, &start, Harm::None, 1)?;
     for call in 1..MOST {
-        let outcome = outcome_of(alloc, command, air, &start, harm, call)?;
+        let outcome = outcome_of(alloc, words, air, &start, harm, call)?;
         assert!(rt; whole.made.starts_with(&outcome.made));
         assert!(rt; whole.put.starts_with(&outcome.put));
         boots_new(alloc, &outcome.held)?;
@@ -290,24 +283,24 @@ fn each_call_of_the_files_and_outputs_fails_in_turn(rt: HostRuntime) -> Result<(
     let alloc = rt.alloc();
     let air = packets(alloc)?;
     let commands: [&[&str]; 12] = [
-        &["hear", "258"],
-        &["load", "258"],
-        &["find"],
-        &["show"],
-        &["build"],
-        &["blank", "4"],
-        &["format", "old.bin"],
-        &["boot"],
-        &["replay"],
-        &["air"],
-        &["audit", "258"],
-        &["sample", "0"],
+        &["folder", "hear", "258"],
+        &["folder", "load", "258"],
+        &["folder", "find"],
+        &["folder", "show"],
+        &["folder", "build"],
+        &["folder", "blank", "4"],
+        &["folder", "format", "old.bin"],
+        &["folder", "boot"],
+        &["folder", "replay"],
+        &["folder", "air"],
+        &["folder", "audit", "258"],
+        &["folder", "sample", "0"],
     ];
-    for command in commands {
-        each_fails(&rt, alloc, command, &air, Object::Shelf, Status::ShelfFault)?;
-        each_fails(&rt, alloc, command, &air, Object::Air, Status::ReadFault)?;
-        each_fails(&rt, alloc, command, &air, Object::Made, Status::WriteFault)?;
-        each_fails(&rt, alloc, command, &air, Object::Out, Status::WriteFault)?;
+    for words in commands {
+        each_fails(&rt, alloc, words, &air, Object::Shelf, Status::ShelfFault)?;
+        each_fails(&rt, alloc, words, &air, Object::Air, Status::ReadFault)?;
+        each_fails(&rt, alloc, words, &air, Object::Made, Status::WriteFault)?;
+        each_fails(&rt, alloc, words, &air, Object::Out, Status::WriteFault)?;
     }
     Ok(())
 }

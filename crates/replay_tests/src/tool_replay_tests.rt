@@ -1,6 +1,7 @@
 //! Streams that `build` made, replayed to a flash in memory.
 
 use crate::check::same;
+use crate::commands::front;
 use flash_bank::{boot, format};
 use flash_dev::{Flash, MemFlash, Tear};
 use flash_stage::{BankStage, RamStage, Stage};
@@ -70,15 +71,14 @@ fn flash_of(alloc: Global, version: u16) -> Result<MemFlash, Fail> {
     }
 }
 
-/// The same, where the number of the record is 4,294,967,295.
+/// The same, where the number of the record is 4,294,967,295: four pairs from byte 8 on.
 fn worn_flash(alloc: Global) -> Result<MemFlash, Fail> {
-    let mut held = flash_of(alloc, 1)?.contents().to_vec(alloc)?;
-    if held.len() != 1024 {
-        return Err(Fail::from("four blocks"));
-    }
-    for k in 0..4usize {
-        held[8 + 2 * k] = 255;
-        held[9 + 2 * k] = 0;
+    let flash = flash_of(alloc, 1)?;
+    let mut held = front(flash.contents(), 8)?.to_vec(alloc)?;
+    held.extend_from_slice(&[255, 0, 255, 0, 255, 0, 255, 0])?;
+    held.extend_from_slice(flash.contents().get(16..).ok_or("four blocks")?)?;
+    if held.len() % 256 != 0 || held.len() > 1024 {
+        return Err(Fail::from("not four blocks"));
     }
     Ok(MemFlash::holding(alloc, &held, 256, 64)?)
 }
@@ -181,16 +181,29 @@ fn verdicts_are_told<S: Stage>(rt: &impl Abort, alloc: Global) -> Result<(), Fai
         ),
     ];
     for (version, len, sent, status, line, image) in rows {
-        let mut shelf = shelf_of(alloc, len, &[])?;
-        let all = packets_of(alloc, &mut shelf)?;
-        same(rt, &all.len(), &(8 * 188));
-        let air = all.get(..sent).expect(rt, "so many bytes");
-        let mut flash = flash_of(alloc, version)?;
-        let outcome = replayed::<S, MemFlash>(alloc, &mut shelf, air, (&[], &[]), &mut flash)?;
-        same(rt, &outcome.status, &status);
-        same(rt, &outcome.line.as_slice(), &line.as_bytes());
-        same(rt, &booted(alloc, &mut flash)?.as_slice(), &image);
+        is_told::<S>(rt, alloc, (version, len, sent), status, line, image)?;
     }
+    Ok(())
+}
+
+/// Replays so many bytes of the stream of a file of a length to a box that runs a version.
+fn is_told<S: Stage>(
+    rt: &impl Abort,
+    alloc: Global,
+    (version, len, sent): (u16, usize, usize),
+    status: Status,
+    line: &str,
+    image: &[u8],
+) -> Result<(), Fail> {
+    let mut shelf = shelf_of(alloc, len, &[])?;
+    let all = packets_of(alloc, &mut shelf)?;
+    same(rt, &all.len(), &(8 * 188));
+    let mut flash = flash_of(alloc, version)?;
+    let air = front(&all, sent)?;
+    let outcome = replayed::<S, MemFlash>(alloc, &mut shelf, air, (&[], &[]), &mut flash)?;
+    same(rt, &outcome.status, &status);
+    same(rt, &outcome.line.as_slice(), &line.as_bytes());
+    same(rt, &booted(alloc, &mut flash)?.as_slice(), &image);
     Ok(())
 }
 
@@ -244,20 +257,36 @@ fn a_flash_is_refused_unchanged(rt: HostRuntime) -> Result<(), Fail> {
     let alloc = rt.alloc();
     let mut shelf = shelf_of(alloc, 256, &[])?;
     let air = packets_of(alloc, &mut shelf)?;
-    let mut worn = worn_flash(alloc)?;
-    let before = worn.contents().to_vec(alloc)?;
-    let outcome = replayed::<BankStage, MemFlash>(alloc, &mut shelf, &air, (&[], &[]), &mut worn)?;
-    same(&rt, &outcome.status, &Status::Worn);
-    assert!(rt; outcome.line.is_empty());
-    same(&rt, &worn.contents(), &before.as_slice());
-    let mut blank = MemFlash::blank(alloc, 4, 256, 64)?;
-    let outcome = replayed::<BankStage, MemFlash>(alloc, &mut shelf, &air, (&[], &[]), &mut blank)?;
-    same(&rt, &outcome.status, &Status::Foreign);
-    let mut none = MemFlash::blank(alloc, 3, 256, 64)?;
-    let outcome = replayed::<BankStage, MemFlash>(alloc, &mut shelf, &air, (&[], &[]), &mut none)?;
-    same(&rt, &outcome.status, &Status::Geometry);
+    is_refused(
+        &rt,
+        alloc,
+        &mut shelf,
+        &air,
+        worn_flash(alloc)?,
+        Status::Worn.code(),
+    )?;
+    let blank = MemFlash::blank(alloc, 4, 256, 64)?;
+    is_refused(&rt, alloc, &mut shelf, &air, blank, Status::Foreign.code())?;
+    let small = MemFlash::blank(alloc, 3, 256, 64)?;
+    is_refused(&rt, alloc, &mut shelf, &air, small, Status::Geometry.code())?;
+    // and where the box has no file
     let mut empty = MemShelf::new(alloc, Vec::new(alloc));
-    let outcome = replayed::<BankStage, MemFlash>(alloc, &mut empty, &air, (&[], &[]), &mut worn)?;
-    same(&rt, &outcome.status.code(), &9);
+    is_refused(&rt, alloc, &mut empty, &air, worn_flash(alloc)?, 9)
+}
+
+/// Replays to a flash, which ends with this code: it is as before, and nothing is printed.
+fn is_refused(
+    rt: &impl Abort,
+    alloc: Global,
+    shelf: &mut MemShelf,
+    air: &[u8],
+    mut flash: MemFlash,
+    code: u8,
+) -> Result<(), Fail> {
+    let before = flash.contents().to_vec(alloc)?;
+    let outcome = replayed::<BankStage, MemFlash>(alloc, shelf, air, (&[], &[]), &mut flash)?;
+    same(rt, &outcome.status.code(), &code);
+    assert!(rt; outcome.line.is_empty());
+    same(rt, &flash.contents(), &before.as_slice());
     Ok(())
 }
