@@ -520,7 +520,7 @@ module _ {S F : Type 0} (s : StageGhosts S) (f : FlashGhosts F) (count : ℕ) (f
 
     -- and so does what was staged before the packet
     pub lasts_broken : s.KEEPS ≡ true → (y : List ℕ) → Lasts 1 (geometry_of (bank_of now)) me heard (heard_by me (newest_packets so_far.taken)) (f.contents mid) y
-        → BreaksLasting me left left_then g y
+        → BreaksLasting me left left_then g (f.contents old) y
     lasts_broken keeps y call = record {
       count = count;
       earlier = so_far.taken;
@@ -529,6 +529,8 @@ module _ {S F : Type 0} (s : StageGhosts S) (f : FlashGhosts F) (count : ℕ) (f
       whole = so_far.whole;
       one = one;
       before = f.contents mid;
+      keeps = so_far.held tells;
+      margin = so_far.margin keeps tells me follows;
       staged = subst (λ (items : List Heard). StagesLast me items g (f.contents mid)) (sym (heard_is me so_far.taken)) (last_now keeps tells me follows);
       lasts = subst (λ (items : List Heard). Lasts 1 g me items (heard_in me so_far.taken) (f.contents mid) y) (sym sections_now)
           (subst (λ (items : List Heard). Lasts 1 g me heard items (f.contents mid) y) (sym (heard_is me so_far.taken))

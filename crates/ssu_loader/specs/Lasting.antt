@@ -1,6 +1,7 @@
 -- How long what a flash has staged stays staged while sections are heard. Lists of sections have the newest first.
 use Rattle.std.specs.Prelude.{◌≡◌, ◌≢◌, ◌⊎◌, ℕ, ◌*◌, List, [], ◌∷◌, ◌++◌, length, Option, Some, Result, Ok, Err, IsTrue}
 use Rattle.bank_kept.specs.Leaving.{KeepsStaged}
+use Rattle.flash_bank.specs.Leaving.{KeepsBoot}
 use Rattle.flash_bank.specs.Sound.{Boot, BootOf}
 use Rattle.flash_layout.specs.Layout.{Geometry}
 use Rattle.flash_stage.specs.Keeping.{HasWholeMargin}
@@ -67,9 +68,9 @@ pub record TakesLasting (n : ℕ) (me : Receiver) (left left_after : Option (Lis
   pub takes : Takes left left_after taken
   pub lasts : Lasts n g me (heard_in me taken) [] x y
 
--- Whole packets were taken. Before the last of them the flash held contents that had staged just the places of the last choice, and of these y
--- may be left so.
-pub record BreaksLasting (me : Receiver) (left left_after : Option (List ℕ)) (g : Geometry) (y : List ℕ) : Type 0 where
+-- Whole packets were taken. All but the last of them left contents of x of which boot takes what it took, which have staged just the places of
+-- the last choice, and with the margin that x had, or a whole one; and of these y may be left so.
+pub record BreaksLasting (me : Receiver) (left left_after : Option (List ℕ)) (g : Geometry) (x y : List ℕ) : Type 0 where
   pub count : ℕ
   pub earlier : List ℕ
   pub packet : List ℕ
@@ -77,5 +78,7 @@ pub record BreaksLasting (me : Receiver) (left left_after : Option (List ℕ)) (
   pub whole : length earlier ≡ 188 * count
   pub one : length packet ≡ 188
   pub before : List ℕ
+  pub keeps : KeepsBoot g x before
+  pub margin : KeepsMargin g x before
   pub staged : StagesLast me (heard_in me earlier) g before
   pub lasts : Lasts 1 g me (heard_in me (earlier ++ packet)) (heard_in me earlier) before y

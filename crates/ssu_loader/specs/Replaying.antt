@@ -135,7 +135,7 @@ pub record ReplaysBox (in_bank keeps : Bool) (box_file : BoxFile) (result : Resu
       → BootOf flash.blocks flash.contents former → KeepsMargin flash.blocks flash.contents flash.contents_after
   -- And where the flash failed at a packet, so does all that was stored before that packet.
   pub faulted : IsErrOf result FlashFault → keeps ≡ true → flash.tells
-      → IsNotBegun air flash ⊎ AsBox keeps box_file flash (λ me. BreaksLasting me air.left air.left_after flash.blocks flash.contents_after)
+      → IsNotBegun air flash ⊎ AsBox keeps box_file flash (λ me. BreaksLasting me air.left air.left_after flash.blocks flash.contents flash.contents_after)
   -- Where no choice begins in what was taken, the flash is only read.
   pub untouched : flash.tells → (former : Boot) → BootOf flash.blocks flash.contents former
       → (taken rest : List ℕ) → air.left ≡ Some (taken ++ rest) → air.left_after ≡ Some rest

@@ -88,7 +88,7 @@ impl<S: Stage> Collector<S> {
         ensures lasts_left { S.KEEPS ≡ true → F.tells → (me : Receiver) (heard : List Heard) → Collects S.Stage F.Flash me heard self.old flash.old
             → LeavesOnly F.moment F.left_since flash.old flash.new
             (Lasts 1 (geometry_of self.old.bank) me (heard_on pid section.now ∷ heard) heard (F.contents flash.old)) }
-        // At Ok what is staged was, with at least this margin, or its margin is whole.
+        // At Ok without a verdict the group that is staged was staged before, all of it stays, and the margin has not fallen; or it is whole.
         ensures margin { S.KEEPS ≡ true → F.tells → (me : Receiver) (heard : List Heard) → Collects S.Stage F.Flash me heard self.old flash.old
             → IfOk result (λ answer. IfNone answer (KeepsMargin (geometry_of self.old.bank) (F.contents flash.old) (F.contents flash.new))) }
         // Where a module is wrong a choice had begun, and nothing of the group stays staged.
@@ -157,7 +157,7 @@ impl<S: Stage> Collector<S> {
             → IsAhead S.Stage F.Flash me item heard change.Chosen self.old flash.old
             → LeavesOnly F.moment F.left_since flash.old flash.new
             (Lasts 1 (geometry_of self.old.bank) me (item ∷ heard) heard (F.contents flash.old)) }
-        // At Ok what is staged was, with at least this margin, or its margin is whole.
+        // At Ok without a verdict the group that is staged was staged before, all of it stays, and the margin has not fallen; or it is whole.
         ensures margin { S.KEEPS ≡ true → F.tells → (me : Receiver) (item : Heard) (heard : List Heard)
             → IsAhead S.Stage F.Flash me item heard change.Chosen self.old flash.old
             → IfOk result (λ answer. IfNone answer (KeepsMargin (geometry_of self.old.bank) (F.contents flash.old) (F.contents flash.new))) }
@@ -234,7 +234,7 @@ impl<S: Stage> Collector<S> {
             → IsAhead S.Stage F.Flash me (heard_on pid section.now) heard change.Same self.old flash.old
             → LeavesOnly F.moment F.left_since flash.old flash.new
             (Lasts 1 (geometry_of self.old.bank) me (heard_on pid section.now ∷ heard) heard (F.contents flash.old)) }
-        // At Ok what is staged was, with at least this margin, or its margin is whole.
+        // At Ok without a verdict the group that is staged was staged before, all of it stays, and the margin has not fallen; or it is whole.
         ensures margin { S.KEEPS ≡ true → F.tells → (me : Receiver) (heard : List Heard)
             → IsAhead S.Stage F.Flash me (heard_on pid section.now) heard change.Same self.old flash.old
             → IfOk result (λ answer. IfNone answer (KeepsMargin (geometry_of self.old.bank) (F.contents flash.old) (F.contents flash.new))) }

@@ -68,7 +68,7 @@ pub(crate) fn hear_each<S: Stage, F: Flash>(
     ensures lasts_left { S.KEEPS ≡ true → F.tells → (me : Receiver) (heard : List Heard) → Collects S.Stage F.Flash me heard collector.old flash.old
         → LeavesOnly F.moment F.left_since flash.old flash.new
         (Lasts 1 (geometry_of collector.old.bank) me (after_all pid each.now heard) heard (F.contents flash.old)) }
-    // At Ok what is staged was, with at least this margin, or its margin is whole.
+    // At Ok without a verdict the group that is staged was staged before, all of it stays, and the margin has not fallen; or it is whole.
     ensures margin { S.KEEPS ≡ true → F.tells → (me : Receiver) (heard : List Heard) → Collects S.Stage F.Flash me heard collector.old flash.old
         → IfOk result (λ answer. IfNone answer (KeepsMargin (geometry_of collector.old.bank) (F.contents flash.old) (F.contents flash.new))) }
     // Where a module is wrong a choice had begun, and nothing of the group stays staged.

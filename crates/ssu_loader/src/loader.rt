@@ -144,7 +144,7 @@ impl<S: Stage> Loader<S> {
         ensures lasts_left { S.KEEPS ≡ true → F.tells → (me : Receiver) (ps : List (List ℕ)) → Follows S.Stage F.Flash me ps self.old flash.old
             → LeavesOnly F.moment F.left_since flash.old flash.new
             (Lasts 1 (geometry_of (bank_of self.old)) me (heard_by me (packet.now ∷ ps)) (heard_by me ps) (F.contents flash.old)) }
-        // At Ok what is staged was, with at least this margin, or its margin is whole.
+        // At Ok without a verdict the group that is staged was staged before, all of it stays, and the margin has not fallen; or it is whole.
         ensures margin { S.KEEPS ≡ true → F.tells → (me : Receiver) (ps : List (List ℕ)) → Follows S.Stage F.Flash me ps self.old flash.old
             → IfOk result (λ answer. IfNone answer (KeepsMargin (geometry_of (bank_of self.old)) (F.contents flash.old) (F.contents flash.new))) }
         // Where a module is wrong a choice had begun, and nothing of the group stays staged.

@@ -88,7 +88,7 @@ fn take_packets<A: Source, F: Flash, S: Stage>(
         → KeepsMargin (geometry_of (bank_of loader.old)) (F.contents flash.old) (F.contents flash.new) }
     ensures fault_lasts { S.KEEPS ≡ true → F.tells → (me : Receiver) → Follows S.Stage F.Flash me [] loader.old flash.old
         → IsErrOf result LoadFault.FlashFault
-        → BreaksLasting me (A.left air.old) (A.left air.new) (geometry_of (bank_of loader.old)) (F.contents flash.new) }
+        → BreaksLasting me (A.left air.old) (A.left air.new) (geometry_of (bank_of loader.old)) (F.contents flash.old) (F.contents flash.new) }
     ensures read_fault { (me : Receiver) → Follows S.Stage F.Flash me [] loader.old flash.old
         → IsErrOf result LoadFault.ReadFault → ReachesNone (KnowsKept S.Stage F.Flash) me (A.left air.old) (A.left air.new) IsWithin }
     ensures too_long { (me : Receiver) → Follows S.Stage F.Flash me [] loader.old flash.old

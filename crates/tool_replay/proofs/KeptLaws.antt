@@ -104,7 +104,7 @@ lasts_same keeps f shelf air flash former only_now =
 
 -- where the flash failed at a packet
 pub breaks_for : (keeps : Bool) (shelf : ShelfSeen) (air : SourceSeen) (flash : FlashSeen) (box_file : BoxFile) → TellsBox shelf.held box_file
-    → IsNotBegun air flash ⊎ AsBox keeps box_file flash (λ me. BreaksLasting me air.left air.left_after flash.blocks flash.contents_after)
+    → IsNotBegun air flash ⊎ AsBox keeps box_file flash (λ me. BreaksLasting me air.left air.left_after flash.blocks flash.contents flash.contents_after)
     → IsNotBegun air flash ⊎ BreaksForBox keeps shelf air flash
 breaks_for keeps shelf air flash box_file told =
     ⊎_elim (λ unbegun. inl unbegun) (λ breaks. inr (record { box_file = box_file; told = told; breaks = breaks }))

@@ -120,7 +120,7 @@ pub record LastsForBox (n : ℕ) (keeps : Bool) (shelf : ShelfSeen) (air : Sourc
 pub record BreaksForBox (keeps : Bool) (shelf : ShelfSeen) (air : SourceSeen) (flash : FlashSeen) : Type 0 where
   pub box_file : BoxFile
   pub told : TellsBox shelf.held box_file
-  pub breaks : AsBox keeps box_file flash (λ me. BreaksLasting me air.left air.left_after flash.blocks flash.contents_after)
+  pub breaks : AsBox keeps box_file flash (λ me. BreaksLasting me air.left air.left_after flash.blocks flash.contents flash.contents_after)
 
 -- This holds of the box that the shelf told, with this flash, and of the bytes that were taken, where shelf, flash and source tell them.
 abbrev pub ForTaken : Bool → ShelfSeen → SourceSeen → FlashSeen → (Receiver → List ℕ → Type 0) → Type 0

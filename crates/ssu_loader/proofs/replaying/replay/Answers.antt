@@ -158,8 +158,8 @@ returns g c =
             (λ you follows. t.lasts_unfailed keeps tells you follows unfailed);
         margin = λ none keeps tells sound former boot.
             of_opened s f me loader old opened new o.follows o.geometry_is o.reads tells (λ (g : Geometry) (z : List ℕ). KeepsMargin g z y) (t.margin keeps tells you o.follows none);
-        faulted = λ fault keeps tells. inr (as_box s f me loader old opened new o.follows o.geometry_is o.reads (λ own. BreaksLasting own left left_after blocks y)
-            (subst (λ (g : Geometry). BreaksLasting you left left_after g y) o.geometry_is (t.fault_lasts keeps tells you o.follows fault)));
+        faulted = λ fault keeps tells. inr (as_box s f me loader old opened new o.follows o.geometry_is o.reads (λ own. BreaksLasting own left left_after blocks x y)
+            (of_opened s f me loader old opened new o.follows o.geometry_is o.reads tells (λ (g : Geometry) (z : List ℕ). BreaksLasting you left left_after g z y) (t.fault_lasts keeps tells you o.follows fault)));
         untouched = λ tells former boot taken rest told told_then none.
             let same : new ≡ opened = of_former s f me loader old opened new o.follows o.geometry_is o.reads tells former boot
             (λ you g z. BeginsNone you taken → new ≡ opened) (λ you follows. t.untouched you follows taken rest told told_then) none in
